@@ -1,0 +1,51 @@
+use mathlib.Core.Path.{_≡_, ap, sym, _∙_}
+use mathlib.Core.List.{_∷_, _++_}
+use Prim.Native.Nat.{_+_, _-_}
+use native.Mathlib.Omega.{arith}
+use lib.ListN.{length, drop}
+use Rattle.codec.specs.Words.{headWord, kindCode}
+use Rattle.codec.specs.Layout.{kindOf, fieldWords}
+use Rattle.codec.specs.Reading.{countAfter}
+use Rattle.codec.proofs.Counts.{fields-counted, count-few}
+use Rattle.codec.proofs.Written.{frame-fits, wrote}
+use Rattle.codec.proofs.writer.write_frame.Needs as need
+
+pub head-word-head-requires : need.head-word-head-requires
+head-word-head-requires g c κs =
+    let p = g .P·Payload in
+    let f = c .args .frame in
+    let w = wrote (p .words) f _ _ (sym (c .in-Continue-count .ensures tt)) in
+    let fits = frame-fits f (w .fits) in
+    let counted = fields-counted (p .size) (p .words) (g .P·Payload·met .counted) (f .body) in
+    let few = count-few (p .size) (g .P·Payload·met .few) (kindOf (f .body)) in
+    (fits .sender, (fits .addressee, omega (arith, w .count)))
+
+pub put-words-requires : need.put-words-requires
+put-words-requires g c κs =
+    let p = g .P·Payload in
+    let f = c .args .frame in
+    let w = wrote (p .words) f _ _ (sym (c .in-Continue-count .ensures tt)) in
+    let counted = fields-counted (p .size) (p .words) (g .P·Payload·met .counted) (f .body) in
+    (frame-fits f (w .fits) .body, omega (arith, w .count, w .within))
+
+pub returns : need.returns
+returns g c =
+    let p = g .P·Payload in
+    let f = c .args .frame in
+    let n = c .in-Continue-count .count in
+    let run = c .args .run .now in
+    let fields = fieldWords (p .words) (f .body) in
+    let w = wrote (p .words) f _ _ (sym (c .in-Continue-count .ensures tt)) in
+    let counted = fields-counted (p .size) (p .words) (g .P·Payload·met .counted) (f .body) in
+    let long : n - 1 ≡ length fields = omega (arith, w .count) in
+    let whole : countAfter (p .size) (kindOf (f .body)) + 1 ≡ n = omega (arith, w .count) in
+    record {
+      told = c .in-Continue-count .ensures tt;
+      after =
+        c .put-words .ensures
+        ∙ ap (λ h. h ∷ (fields ++ drop (countAfter (p .size) (kindOf (f .body)) + 1) run))
+          (c .head-word-head .ensures
+           ∙ ap (λ k. headWord (kindCode k) (f .sender) (f .addressee) (n - 1)) (c .kind-of .ensures)
+           ∙ ap (headWord (kindCode (kindOf (f .body))) (f .sender) (f .addressee)) long)
+        ∙ ap (λ k. headWord (kindCode (kindOf (f .body))) (f .sender) (f .addressee) (length fields) ∷ (fields ++ drop k run)) whole
+    }
