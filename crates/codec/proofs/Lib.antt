@@ -1,3 +1,6 @@
 mod Runs
 mod Counts
 mod Written
+mod Heads
+mod ReadBack
+mod WriteBack

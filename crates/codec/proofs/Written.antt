@@ -1,12 +1,12 @@
 -- What a frame that is written is: it fits its words, and they fit the run.
-use mathlib.Core.Path.{_≡_, refl}
+use mathlib.Core.Path.{_≡_, refl, sym, ap}
 use mathlib.Core.Bool.{Bool, true, false, cond, _&&_}
 use mathlib.Core.List.{List}
 use Prim.Native.Nat.{ℕ, _≤_, _<_}
 use native.Mathlib.Omega.{arith}
 use lib.Dec.{leb}
 use lib.ListN.{length}
-use Rattle.std.proofs.shelf.Tests.{leb-true, and-parts}
+use Rattle.std.proofs.shelf.Tests.{leb-true, le-leb, and-parts}
 use Rattle.frames.specs.declared.frame.Frame.{Frame}
 use Rattle.frames.specs.Answers.{Answer, gives, refuses}
 use Rattle.codec.specs.Layout.{frameWords, bodyFits, frameFits}
@@ -27,6 +27,9 @@ frame-fits f fits =
       body = b .1
     }
 
+pub gives-same : {A : Type 0} (x y : A) → gives x ≡ gives y → x ≡ y
+gives-same x y e = cc
+
 -- an answer under two tests, where it is a value
 passed : (t u : Bool) (m n : ℕ) → cond t (cond u (gives m) (refuses 19)) (refuses 18) ≡ gives n → (t ≡ true) × (u ≡ true) × (n ≡ m)
 passed true true m n e = (refl, refl, cc)
@@ -43,3 +46,10 @@ wrote words f room n e =
     let m = length (frameWords words f) in
     let p = passed (frameFits f) (leb m room) m n e in
     record { fits = p .0; count = p .2; within = omega (arith, leb-true m room (p .1), p .2) }
+
+pub writes-whole : {P : Type 0} (words : P → List ℕ) (f : Frame P) (n : ℕ) → frameFits f ≡ true → n ≡ length (frameWords words f)
+  → writes words f n ≡ gives n
+writes-whole words f n fits count =
+    let m = length (frameWords words f) in
+    let room : leb m n ≡ true = le-leb m n (omega arith) in
+    rw (fits, room) (ap gives (sym count))

@@ -29,6 +29,10 @@ abbrev pub allOf : ℕ → List ℕ → Bool
 allOf kind [] = true
 allOf kind (w ∷ ws) = eqb (wordKind w) kind && allOf kind ws
 
+-- The frame with the nodes that a head names, and that body.
+abbrev pub headed : {P : Type 0} → ℕ → Body P → Frame P
+headed head b = record { sender = headSender head; addressee = headAddressee head; body = b }
+
 module _ {P : Type 0} (size : ℕ) (reads : List ℕ → Option P) where
   -- The payload in the first words.
   abbrev pub payloadOf : List ℕ → Answer P
@@ -57,8 +61,7 @@ module _ {P : Type 0} (size : ℕ) (reads : List ℕ → Option P) where
   frameOf head kind ws =
       cond (eqb (headCount head) (countAfter size kind))
       (cond (leb (countAfter size kind) (length ws))
-       (andThen (bodyOf kind ws) (λ b.
-        gives (record { sender = headSender head; addressee = headAddressee head; body = b }, countAfter size kind + 1)))
+       (andThen (bodyOf kind ws) (λ b. gives (headed head b, countAfter size kind + 1)))
        (refuses 15))
       (refuses 14)
 

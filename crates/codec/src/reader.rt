@@ -126,6 +126,7 @@ fn read_after<P: Payload>(head: u32, kind: Kind, rest: &[u32]) -> Result<(Frame<
 // The frame at the front of a run of words, and how many of them it takes.
 pub fn read_frame<P: Payload>(run: &[u32]) -> Result<(Frame<P>, usize), Refusal>
     ensures told { λ r. ⌜ answer r ≡ frameAt size reads (now (run .entry)) ⌝ }
+    ensures writes_back { λ r. ⌜ WritesBack words (now (run .entry)) (answer r) ⌝ }
 {
     let [head, rest @ ..] = run else {
         return Err(Refusal::EmptyRun);

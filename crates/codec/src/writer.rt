@@ -126,6 +126,7 @@ fn put_words<P: Payload>(head: u32, body: Body<P>, run: &mut [u32])
 pub fn write_frame<P: Payload>(frame: Frame<P>, run: &mut [u32]) -> Result<usize, Refusal>
     ensures told { λ r. ⌜ answer r ≡ writes words frame (length (now (run .entry))) ⌝ }
     ensures after { λ r. ⌜ now (run .exit) ≡ overwritten (frameWords words frame) (answer r) (now (run .entry)) ⌝ }
+    ensures reads_back { λ r. ⌜ ReadsBack size reads frame (answer r) (now (run .exit)) ⌝ }
 {
     let count = room_for(frame, run.len())?;
     let head = head_word(kind_of(frame.body), frame.sender, frame.addressee, count - 1);
