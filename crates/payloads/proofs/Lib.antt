@@ -1,0 +1,4 @@
+mod Made
+mod Signs
+mod LineLaws
+mod EventLaws

@@ -1,0 +1,4 @@
+pub mod Checked
+pub mod Ranges
+pub mod Lines
+pub mod Events
