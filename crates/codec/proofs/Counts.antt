@@ -14,7 +14,7 @@ use Rattle.codec.specs.Reading.{countAfter}
 
 -- the words after the head are as many as its kind of frame has
 pub fields-counted : {P : Type 0} (size : ℕ) (words : P → List ℕ) → ((x : P) → length (words x) ≡ size)
-  → (b : Body P) → length (fieldWords words b) ≡ countAfter size (kindOf b)
+    → (b : Body P) → length (fieldWords words b) ≡ countAfter size (kindOf b)
 fields-counted size words counted (ReqSlots s n l) = refl
 fields-counted size words counted (Slots s r n) = refl
 fields-counted size words counted (Token s r p) = omega (arith, length-map (words p) (word 12), counted p)

@@ -38,8 +38,8 @@ values-back k [] narrow = refl
 values-back k (v ∷ vs) narrow = rw (value-back k v (narrow .0), values-back k vs (narrow .1))
 
 module _ {P : Type 0} (size : ℕ) (words : P → List ℕ) (reads : List ℕ → Option P)
-  (few : size ≤ 4) (counted : (x : P) → length (words x) ≡ size) (narrow : (x : P) → All (λ w. w < 2 ^ 28) (words x))
-  (back : (x : P) → reads (words x) ≡ Some x) where
+    (few : size ≤ 4) (counted : (x : P) → length (words x) ≡ size) (narrow : (x : P) → All (λ w. w < 2 ^ 28) (words x))
+    (back : (x : P) → reads (words x) ≡ Some x) where
   payload-back : (p : P) (rest : List ℕ) → payloadOf size reads (map (word 12) (words p) ++ rest) ≡ gives p
   payload-back p rest =
       let front = take-at (map (word 12) (words p)) rest size (length-map (words p) (word 12) ∙ counted p) in
@@ -63,7 +63,7 @@ module _ {P : Type 0} (size : ℕ) (words : P → List ℕ) (reads : List ℕ �
 
   -- whatever follows the words
   pub frame-back : (f : Frame P) (rest : List ℕ) → frameFits f ≡ true
-    → frameAt size reads (frameWords words f ++ rest) ≡ gives (f, length (frameWords words f))
+      → frameAt size reads (frameWords words f ++ rest) ≡ gives (f, length (frameWords words f))
   frame-back f rest fits =
       let b = f .body in
       let fields = fieldWords words b in
@@ -73,10 +73,16 @@ module _ {P : Type 0} (size : ℕ) (words : P → List ℕ) (reads : List ℕ �
       let small : n < 4096 = omega (arith, count-few size few (kindOf b)) in
       let k = kindCode (kindOf b) in
       let count = eq-eqb (headCount (headWord k (f .sender) (f .addressee) n)) (countAfter size (kindOf b))
-                  (head-count-back k (f .sender) (f .addressee) n (fit .sender) (fit .addressee) small ∙ long) in
+      (head-count-back k (f .sender) (f .addressee) n (fit .sender) (fit .addressee) small ∙ long) in
       let room = le-leb (countAfter size (kindOf b)) (length (fields ++ rest)) (omega (arith, length-append fields rest)) in
       let whole : countAfter size (kindOf b) + 1 ≡ length (frameWords words f) = omega arith in
-      rw (head-kind-back k (f .sender) (f .addressee) n (fit .sender) (fit .addressee) small, kindAt-code (kindOf b), count, room,
-          body-back b rest (fit .body),
-          head-sender-back k (f .sender) (f .addressee) n (fit .sender) (fit .addressee) small,
-          head-addressee-back k (f .sender) (f .addressee) n (fit .sender) (fit .addressee) small, whole)
+      rw (
+        head-kind-back k (f .sender) (f .addressee) n (fit .sender) (fit .addressee) small,
+        kindAt-code (kindOf b),
+        count,
+        room,
+        body-back b rest (fit .body),
+        head-sender-back k (f .sender) (f .addressee) n (fit .sender) (fit .addressee) small,
+        head-addressee-back k (f .sender) (f .addressee) n (fit .sender) (fit .addressee) small,
+        whole,
+      )

@@ -51,7 +51,7 @@ field-only k w v e =
     let value : wordValue w ≡ v = gives-same (wordValue w) v (t .1) in
     record {
       word-is = sym (whole-word w k (t .0)) ∙ ap (word k) value;
-      fits = le-leb v lastClock (omega arith)
+      fits = le-leb v lastClock (omega arith);
     }
 
 -- two fields and something third that are read
@@ -65,8 +65,8 @@ record ThreeRead {A B : Type 0} (j k x y : ℕ) (third : Answer A) (make : ℕ �
   made : make u v w ≡ b
 
 three-only : {A B : Type 0} (j k x y : ℕ) (third : Answer A) (make : ℕ → ℕ → A → B) (b : B)
-  → andThen (fieldOf j x) (λ u. andThen (fieldOf k y) (λ v. andThen third (λ w. gives (make u v w)))) ≡ gives b
-  → ThreeRead j k x y third make b
+    → andThen (fieldOf j x) (λ u. andThen (fieldOf k y) (λ v. andThen third (λ w. gives (make u v w)))) ≡ gives b
+    → ThreeRead j k x y third make b
 three-only j k x y third make b e =
     let p = gave (fieldOf j x) (λ u. andThen (fieldOf k y) (λ v. andThen third (λ w. gives (make u v w)))) b e in
     let q = gave (fieldOf k y) (λ v. andThen third (λ w. gives (make (p .0) v w))) b (p .2) in
@@ -78,7 +78,7 @@ three-only j k x y third make b e =
       first = field-only j x (p .0) (p .1);
       second = field-only k y (q .0) (q .1);
       third-is = r .1;
-      made = gives-same (make (p .0) (q .0) (r .0)) b (r .2)
+      made = gives-same (make (p .0) (q .0) (r .0)) b (r .2);
     }
 
 words-only : (k : ℕ) (ws : List ℕ) → allOf k ws ≡ true → map (word k) (map wordValue ws) ≡ ws
@@ -95,7 +95,7 @@ head-only : (h : ℕ) → h ≡ headWord (wordKind h) (headSender h) (headAddres
 head-only h = omega arith
 
 module _ {P : Type 0} (size : ℕ) (words : P → List ℕ) (reads : List ℕ → Option P)
-  (only : (ws : List ℕ) (x : P) → reads ws ≡ Some x → ws ≡ words x) where
+    (only : (ws : List ℕ) (x : P) → reads ws ≡ Some x → ws ≡ words x) where
   payload-only : (ws : List ℕ) (p : P) → payloadOf size reads ws ≡ gives p → take size ws ≡ map (word 12) (words p)
   payload-only ws p e =
       let t = tested (allOf 12 (take size ws)) (orRefuse (reads (map wordValue (take size ws))) 17) 16 p e in
@@ -115,7 +115,7 @@ module _ {P : Type 0} (size : ℕ) (words : P → List ℕ) (reads : List ℕ �
       subst (Only kinds.ReqSlots (x ∷ y ∷ z ∷ ws)) (t .made) (record {
         kind = refl;
         fits = and-from _ _ (t .first .fits) (and-from _ _ (t .second .fits) (l .fits));
-        words-are = cc (t .first .word-is, t .second .word-is, l .word-is)
+        words-are = cc (t .first .word-is, t .second .word-is, l .word-is);
       })
   body-only kinds.ReqSlots [] b long e = absurd (omega arith)
   body-only kinds.ReqSlots (x ∷ []) b long e = absurd (omega arith)
@@ -126,7 +126,7 @@ module _ {P : Type 0} (size : ℕ) (words : P → List ℕ) (reads : List ℕ �
       subst (Only kinds.Slots (x ∷ y ∷ z ∷ ws)) (t .made) (record {
         kind = refl;
         fits = and-from _ _ (t .first .fits) (and-from _ _ (t .second .fits) (n .fits));
-        words-are = cc (t .first .word-is, t .second .word-is, n .word-is)
+        words-are = cc (t .first .word-is, t .second .word-is, n .word-is);
       })
   body-only kinds.Slots [] b long e = absurd (omega arith)
   body-only kinds.Slots (x ∷ []) b long e = absurd (omega arith)
@@ -137,7 +137,7 @@ module _ {P : Type 0} (size : ℕ) (words : P → List ℕ) (reads : List ℕ �
       subst (Only kinds.Token (x ∷ y ∷ ws)) (t .made) (record {
         kind = refl;
         fits = and-from _ _ (t .first .fits) (t .second .fits);
-        words-are = rw two (cc (t .first .word-is, t .second .word-is, payload-only ws (t .w) (t .third-is)))
+        words-are = rw two (cc (t .first .word-is, t .second .word-is, payload-only ws (t .w) (t .third-is)));
       })
   body-only kinds.Token [] b long e = absurd (omega arith)
   body-only kinds.Token (x ∷ []) b long e = absurd (omega arith)
@@ -149,7 +149,7 @@ module _ {P : Type 0} (size : ℕ) (words : P → List ℕ) (reads : List ℕ �
       subst (Only kinds.Ack (x ∷ y ∷ ws)) (gives-same (Ack (p .0) (q .0)) b (q .2)) (record {
         kind = refl;
         fits = and-from _ _ (s .fits) (r .fits);
-        words-are = cc (s .word-is, r .word-is)
+        words-are = cc (s .word-is, r .word-is);
       })
   body-only kinds.Ack [] b long e = absurd (omega arith)
   body-only kinds.Ack (x ∷ []) b long e = absurd (omega arith)
@@ -159,7 +159,7 @@ module _ {P : Type 0} (size : ℕ) (words : P → List ℕ) (reads : List ℕ �
   Whole h ws got = (writes words (got .0) (got .1) ≡ gives (got .1)) × (take (got .1) (h ∷ ws) ≡ frameWords words (got .0))
 
   headed-only : (h : ℕ) (k : Kind) (ws : List ℕ) (b : Body P) → kindCode k ≡ wordKind h → headCount h ≡ countAfter size k
-    → countAfter size k ≤ length ws → Only k ws b → Whole h ws (headed h b, countAfter size k + 1)
+      → countAfter size k ≤ length ws → Only k ws b → Whole h ws (headed h b, countAfter size k + 1)
   unfolding Whole
   headed-only h k ws b kind count long o =
       let m = countAfter size k in
@@ -167,13 +167,14 @@ module _ {P : Type 0} (size : ℕ) (words : P → List ℕ) (reads : List ℕ �
       let counted : m ≡ n = sym (length-take-le m ws long) ∙ ap length (o .words-are) in
       let one : m + 1 ≡ suc m = omega arith in
       let head : h ≡ headWord (kindCode (kindOf b)) (headSender h) (headAddressee h) n =
-            head-only h
-            ∙ ap (λ j. headWord j (headSender h) (headAddressee h) (headCount h)) (sym kind ∙ ap kindCode (sym (o .kind)))
-            ∙ ap (headWord (kindCode (kindOf b)) (headSender h) (headAddressee h)) (count ∙ counted) in
+      head-only h
+      ∙ ap (λ j. headWord j (headSender h) (headAddressee h) (headCount h)) (sym kind ∙ ap kindCode (sym (o .kind)))
+      ∙ ap (headWord (kindCode (kindOf b)) (headSender h) (headAddressee h)) (count ∙ counted) in
       let sender = le-leb (headSender h) 255 (omega arith) in
-      let addressee = le-leb (headAddressee h) 255 (omega arith) in
-      (writes-whole words (headed h b) (m + 1) (and-from _ _ sender (and-from _ _ addressee (o .fits))) (omega arith),
-       ap (λ j. take j (h ∷ ws)) one ∙ ap (λ xs. h ∷ xs) (o .words-are) ∙ ap (λ x. x ∷ fieldWords words b) head)
+      let addressee = le-leb (headAddressee h) 255 (omega arith) in (
+        writes-whole words (headed h b) (m + 1) (and-from _ _ sender (and-from _ _ addressee (o .fits))) (omega arith),
+        ap (λ j. take j (h ∷ ws)) one ∙ ap (λ xs. h ∷ xs) (o .words-are) ∙ ap (λ x. x ∷ fieldWords words b) head,
+      )
 
   frame-only : (h : ℕ) (k : Kind) (ws : List ℕ) (got : Frame P × ℕ) → kindCode k ≡ wordKind h → frameOf size reads h k ws ≡ gives got → Whole h ws got
   frame-only h k ws got kind e =

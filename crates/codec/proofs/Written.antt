@@ -24,7 +24,7 @@ frame-fits f fits =
     record {
       sender = omega (arith, leb-true (f .sender) 255 (a .0));
       addressee = omega (arith, leb-true (f .addressee) 255 (b .0));
-      body = b .1
+      body = b .1;
     }
 
 pub gives-same : {A : Type 0} (x y : A) → gives x ≡ gives y → x ≡ y
@@ -48,7 +48,7 @@ wrote words f room n e =
     record { fits = p .0; count = p .2; within = omega (arith, leb-true m room (p .1), p .2) }
 
 pub writes-whole : {P : Type 0} (words : P → List ℕ) (f : Frame P) (n : ℕ) → frameFits f ≡ true → n ≡ length (frameWords words f)
-  → writes words f n ≡ gives n
+    → writes words f n ≡ gives n
 writes-whole words f n fits count =
     let m = length (frameWords words f) in
     let room : leb m n ≡ true = le-leb m n (omega arith) in

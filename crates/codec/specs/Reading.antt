@@ -61,8 +61,8 @@ module _ {P : Type 0} (size : ℕ) (reads : List ℕ → Option P) where
   frameOf head kind ws =
       cond (eqb (headCount head) (countAfter size kind))
       (cond (leb (countAfter size kind) (length ws))
-       (andThen (bodyOf kind ws) (λ b. gives (headed head b, countAfter size kind + 1)))
-       (refuses 15))
+      (andThen (bodyOf kind ws) (λ b. gives (headed head b, countAfter size kind + 1)))
+      (refuses 15))
       (refuses 14)
 
   -- The frame at the front of a run, and the count of its words.

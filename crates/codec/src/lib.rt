@@ -3,5 +3,6 @@ mod bits;
 mod reader;
 mod word;
 mod writer;
+
 pub use reader::read_frame;
 pub use writer::write_frame;

@@ -24,7 +24,11 @@ ghost use Rattle.codec.specs.declared.word.Kind.the-variants as kinds;
 fn read_field(w: u32, field: Field) -> Result<u64, Refusal>
     ensures { λ r. ⌜ answer r ≡ fieldOf (fieldCode field) w ⌝ }
 {
-    if is_field(w, field) { Ok(u64::from(value_of(w))) } else { Err(Refusal::WordKind) }
+    if is_field(w, field) {
+        Ok(u64::from(value_of(w)))
+    } else {
+        Err(Refusal::WordKind)
+    }
 }
 
 // How many words follow the head of that kind of frame.
@@ -119,7 +123,11 @@ fn read_after<P: Payload>(head: u32, kind: Kind, rest: &[u32]) -> Result<(Frame<
         return Err(Refusal::ShortRun);
     }
     let body = read_body(kind, rest)?;
-    let frame = Frame { sender: head_sender(head), addressee: head_addressee(head), body };
+    let frame = Frame {
+        sender: head_sender(head),
+        addressee: head_addressee(head),
+        body,
+    };
     Ok((frame, count + 1))
 }
 

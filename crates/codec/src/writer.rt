@@ -129,7 +129,12 @@ pub fn write_frame<P: Payload>(frame: Frame<P>, run: &mut [u32]) -> Result<usize
     ensures reads_back { λ r. ⌜ ReadsBack size reads frame (answer r) (now (run .exit)) ⌝ }
 {
     let count = room_for(frame, run.len())?;
-    let head = head_word(kind_of(frame.body), frame.sender, frame.addressee, count - 1);
+    let head = head_word(
+        kind_of(frame.body),
+        frame.sender,
+        frame.addressee,
+        count - 1,
+    );
     put_words(head, frame.body, run);
     Ok(count)
 }

@@ -38,7 +38,7 @@ in-range x =
       place = leb-true (x .place) 1023 (p .0);
       low = omega (arith, ints);
       high = omega (arith, ints);
-      raised = omega (arith, ints)
+      raised = omega (arith, ints);
     }
 
 pub line-back : (x : ProfileLine) → lineReads (lineWords x) ≡ Some x

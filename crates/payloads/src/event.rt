@@ -3,7 +3,9 @@ use crate::sort::Sort;
 ghost use mathlib.Core.Path.{_≡_};
 ghost use mathlib.Core.Bool.{true};
 ghost use Rattle.payloads.specs.Ranges.{eventFits};
+
 mod methods;
+
 pub use methods::LiftEventPayload;
 
 // An event and the lift that it happened at.

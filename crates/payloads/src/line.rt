@@ -2,7 +2,9 @@
 ghost use mathlib.Core.Path.{_≡_};
 ghost use mathlib.Core.Bool.{true};
 ghost use Rattle.payloads.specs.Ranges.{lineFits};
+
 mod methods;
+
 pub use methods::ProfileLinePayload;
 
 // A step that is added to what the controller holds at a place.

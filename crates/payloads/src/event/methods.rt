@@ -37,7 +37,11 @@ fn event_fits(lift: u32, sort: Sort) -> bool
 fn event_of(lift: u32, sort: Sort) -> Option<LiftEvent>
     ensures { λ r. ⌜ r ≡ eventOf lift sort ⌝ }
 {
-    if event_fits(lift, sort) { Some(LiftEvent { lift, sort }) } else { None }
+    if event_fits(lift, sort) {
+        Some(LiftEvent { lift, sort })
+    } else {
+        None
+    }
 }
 
 // The number of a sort.
@@ -72,7 +76,9 @@ fn sort_of(code: u32, detail: u32) -> Option<Sort>
     match code {
         1 if detail == 0 => Some(Sort::AlarmPressed),
         2 => Some(Sort::DoorFault { code: detail }),
-        3 => Some(Sort::Stopped { floor: lower(detail, 64) }),
+        3 => Some(Sort::Stopped {
+            floor: lower(detail, 64),
+        }),
         _ => None,
     }
 }

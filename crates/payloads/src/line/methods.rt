@@ -23,7 +23,11 @@ fn line_fits(place: u32, step: i32) -> bool
 fn line_of(place: u32, step: i32) -> Option<ProfileLine>
     ensures { λ r. ⌜ r ≡ lineOf place step ⌝ }
 {
-    if line_fits(place, step) { Some(ProfileLine { place, step }) } else { None }
+    if line_fits(place, step) {
+        Some(ProfileLine { place, step })
+    } else {
+        None
+    }
 }
 
 impl ProfileLine {
@@ -65,7 +69,11 @@ pub impl Payload for ProfileLine as ProfileLinePayload {
     }
 
     fn word(self, i: usize) -> u32 {
-        if i == 0 { halves(self.place, raise(self.step, 32768)) } else { 0 }
+        if i == 0 {
+            halves(self.place, raise(self.step, 32768))
+        } else {
+            0
+        }
     }
 
     fn read(ws: &[u32]) -> Result<ProfileLine, Refusal> {

@@ -15,5 +15,5 @@ returns g c =
     let told : answer (c .read-after .result) ≡ frameAt (p .size) (p .reads) run = search (needs, first-rest) in
     record {
       told = told;
-      writes-back = λ f n e. written-back (p .size) (p .words) (p .reads) (laws .only) run f n (sym told ∙ e)
+      writes-back = λ f n e. written-back (p .size) (p .words) (p .reads) (laws .only) run f n (sym told ∙ e);
     }

@@ -21,10 +21,11 @@ pub loop-i-again : need.loop-i-again
 loop-i-again g c =
     let ws = c .args .ws .now in
     let i = c .loop-i .i in
-    let few = g .P·Payload·met .few in
-    (length-set _ _ _ ∙ c .loop-i .inv .0,
-     allOf-more 12 i ws (omega arith) (c .loop-i .inv .1) (sym (c .if-not-is-field .ensures tt)),
-     take-more-set (c .loop-i .values) i (c .value-of .result) (omega arith)
-     ∙ ap (λ vs. vs ++ c .value-of .result ∷ []) (c .loop-i .inv .2)
-     ∙ ap (λ v. map wordValue (take i ws) ++ v ∷ []) (c .value-of .ensures)
-     ∙ sym (map-more wordValue ws i 0 (omega arith)))
+    let few = g .P·Payload·met .few in (
+      length-set _ _ _ ∙ c .loop-i .inv .0,
+      allOf-more 12 i ws (omega arith) (c .loop-i .inv .1) (sym (c .if-not-is-field .ensures tt)),
+      take-more-set (c .loop-i .values) i (c .value-of .result) (omega arith)
+          ∙ ap (λ vs. vs ++ c .value-of .result ∷ []) (c .loop-i .inv .2)
+          ∙ ap (λ v. map wordValue (take i ws) ++ v ∷ []) (c .value-of .ensures)
+          ∙ sym (map-more wordValue ws i 0 (omega arith)),
+    )

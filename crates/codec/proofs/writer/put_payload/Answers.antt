@@ -25,7 +25,7 @@ loop-i-again g c =
     let long = length-map ws (word 12) in
     let here = getD-map (word 12) ws i 0 0 (omega arith) in
     let wrote : c .field-word .result ≡ getD (map (word 12) ws) i 0 =
-          c .field-word .ensures ∙ ap (word 12) (c .from .ensures ∙ c .word .ensures) ∙ sym here in
+    c .field-word .ensures ∙ ap (word 12) (c .from .ensures ∙ c .word .ensures) ∙ sym here in
     ap (λ v. set (c .loop-i .run) i v) wrote
     ∙ ap (λ run. set run i (getD (map (word 12) ws) i 0)) (c .loop-i .inv)
     ∙ laid-more (map (word 12) ws) (c .args .run .now) i (omega arith) (omega arith)

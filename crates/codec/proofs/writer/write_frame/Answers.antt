@@ -43,16 +43,16 @@ returns g c =
     let long : n - 1 ≡ length fields = omega (arith, w .count) in
     let whole : countAfter (p .size) (kindOf (f .body)) + 1 ≡ n = omega (arith, w .count) in
     let after : c .put-words .last .run ≡ frameWords (p .words) f ++ drop n run =
-          c .put-words .ensures
-          ∙ ap (λ h. h ∷ (fields ++ drop (countAfter (p .size) (kindOf (f .body)) + 1) run))
-            (c .head-word-head .ensures
-             ∙ ap (λ k. headWord (kindCode k) (f .sender) (f .addressee) (n - 1)) (c .kind-of .ensures)
-             ∙ ap (headWord (kindCode (kindOf (f .body))) (f .sender) (f .addressee)) long)
-          ∙ ap (λ k. frameWords (p .words) f ++ drop k run) whole in
+    c .put-words .ensures
+    ∙ ap (λ h. h ∷ (fields ++ drop (countAfter (p .size) (kindOf (f .body)) + 1) run))
+    (c .head-word-head .ensures
+    ∙ ap (λ k. headWord (kindCode k) (f .sender) (f .addressee) (n - 1)) (c .kind-of .ensures)
+    ∙ ap (headWord (kindCode (kindOf (f .body))) (f .sender) (f .addressee)) long)
+    ∙ ap (λ k. frameWords (p .words) f ++ drop k run) whole in
     let back = frame-back (p .size) (p .words) (p .reads) (laws .few) (laws .counted) (laws .narrow) (laws .back) f (drop n run) (w .fits) in
     record {
       told = c .in-Continue-count .ensures tt;
       after = after;
       reads-back = λ m e.
-        ap (frameAt (p .size) (p .reads)) after ∙ back ∙ ap (λ k. gives (f, k)) (sym (w .count) ∙ gives-same n m e)
+          ap (frameAt (p .size) (p .reads)) after ∙ back ∙ ap (λ k. gives (f, k)) (sym (w .count) ∙ gives-same n m e);
     }
