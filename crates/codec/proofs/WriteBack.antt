@@ -6,16 +6,20 @@ use Prim.Native.Nat.{ℕ, suc, _+_, _*_, _/_, _%_, _^_, _<_, _≤_}
 use native.Mathlib.Omega.{arith}
 use lib.Dec.{eqb, leb}
 use lib.ListN.{length, take, getD, drop}
+use Rattle.std.specs.Vec.{made}
 use Rattle.std.specs.declared.option.Option.{Option}
+use Rattle.std.specs.declared.result.Result.{Result}
+use Rattle.std.specs.declared.result.Result.the-variants.{Ok, Err}
 use Rattle.std.specs.declared.option.Option.the-variants.{Some, None}
 use Rattle.std.proofs.shelf.Bits.{div-add-mod', shr-split, shr-shr}
-use Rattle.std.proofs.shelf.Lists.{length-take-le}
+use Rattle.std.proofs.shelf.Lists.{length-take, length-take-le}
 use Rattle.std.proofs.shelf.Ways.{tells}
 use Rattle.std.proofs.shelf.Tests.{eqb-true, leb-true, le-leb, and-parts, and-from}
 use Rattle.frames.specs.declared.frame.Frame.{Frame}
 use Rattle.frames.specs.declared.frame.Body.{Body}
 use Rattle.frames.specs.declared.frame.Body.the-variants.{ReqSlots, Slots, Token, Ack}
-use Rattle.frames.specs.Answers.{Answer, gives, refuses, andThen, orRefuse}
+use Rattle.frames.specs.declared.refusal.Refusal.{Refusal}
+use Rattle.frames.specs.Answers.{Answer, answer, gives, refuses, andThen, orRefuse}
 use Rattle.codec.specs.declared.word.Kind.{Kind}
 use Rattle.codec.specs.declared.word.Kind.the-variants as kinds
 use Rattle.codec.specs.Words.{word, wordKind, wordValue, headWord, headSender, headAddressee, headCount, kindCode, kindAt}
@@ -23,7 +27,7 @@ use Rattle.codec.specs.Layout.{lastClock, kindOf, fieldWords, frameWords, body
 use Rattle.codec.specs.Writing.{writes}
 use Rattle.codec.specs.Reading.{headed, countAfter, fieldOf, allOf, payloadOf, bodyOf, frameOf, frameAt}
 use Rattle.codec.specs.Trips.{WritesBack}
-use Rattle.codec.proofs.Written.{gives-same, writes-whole}
+use Rattle.codec.proofs.Written.{gives-same, wrote, writes-whole}
 
 gave : {A B : Type 0} (a : Answer A) (f : A → Answer B) (y : B) → andThen a f ≡ gives y → (x : A) × (a ≡ gives x) × (f x ≡ gives y)
 gave (gives x) f y e = (x, refl, e)
@@ -193,3 +197,12 @@ module _ {P : Type 0} (size : ℕ) (words : P → List ℕ) (reads : List ℕ �
   written-back (h ∷ ws) f n e =
       let g = gave (orRefuse (kindAt (wordKind h)) 13) (λ k. frameOf size reads h k ws) (f, n) e in
       frame-only h (g .0) ws (f, n) (kindAt-only (wordKind h) (g .0) (there (kindAt (wordKind h)) 13 (g .0) (g .1))) (g .2)
+
+  -- and lies within the run
+  pub used-within : (run : List ℕ) (r : Result (Frame P × ℕ) Refusal) → answer r ≡ frameAt size reads run → made r (λ got. got .1 ≤ length run)
+  used-within run (Err e) told = tt
+  used-within run (Ok got) told =
+      let back = written-back run (got .0) (got .1) (sym told) in
+      let count = wrote words (got .0) (got .1) (got .1) (back .0) .count in
+      let same = sym (length-take (got .1) run) ∙ ap length (back .1) in
+      omega (arith, same)

@@ -14,6 +14,7 @@ use frames::refusal::Refusal;
 ghost use mathlib.Core.Path.{_≡_};
 ghost use Prim.Native.Nat.{_+_, _≤_};
 ghost use lib.ListN.{length};
+ghost use Rattle.std.specs.Vec.{made};
 ghost use Rattle.frames.specs.Answers.{answer};
 ghost use Rattle.codec.specs.Words.{fieldCode};
 ghost use Rattle.codec.specs.Reading.{fieldOf, countAfter, payloadOf, bodyOf, frameOf, frameAt};
@@ -134,6 +135,7 @@ fn read_after<P: Payload>(head: u32, kind: Kind, rest: &[u32]) -> Result<(Frame<
 // The frame at the front of a run of words, and how many of them it takes.
 pub fn read_frame<P: Payload>(run: &[u32]) -> Result<(Frame<P>, usize), Refusal>
     ensures told { λ r. ⌜ answer r ≡ frameAt size reads (now (run .entry)) ⌝ }
+    ensures within { λ r. ⌜ made r (λ got. got .1 ≤ length (now (run .entry))) ⌝ }
     ensures writes_back { λ r. ⌜ WritesBack words (now (run .entry)) (answer r) ⌝ }
 {
     let [head, rest @ ..] = run else {

@@ -14,6 +14,7 @@ ghost use mathlib.Core.Bool.{true};
 ghost use mathlib.Core.List.{_∷_, _++_, map};
 ghost use Prim.Native.Nat.{_+_, _^_, _≤_, _<_};
 ghost use lib.ListN.{length, drop};
+ghost use Rattle.std.specs.Vec.{made};
 ghost use Rattle.frames.specs.Answers.{answer};
 ghost use Rattle.codec.specs.Words.{word};
 ghost use Rattle.codec.specs.Layout.{kindOf, fieldWords, frameWords, bodyFits, frameFits};
@@ -126,6 +127,7 @@ fn put_words<P: Payload>(head: u32, body: Body<P>, run: &mut [u32])
 pub fn write_frame<P: Payload>(frame: Frame<P>, run: &mut [u32]) -> Result<usize, Refusal>
     ensures told { λ r. ⌜ answer r ≡ writes words frame (length (now (run .entry))) ⌝ }
     ensures after { λ r. ⌜ now (run .exit) ≡ overwritten (frameWords words frame) (answer r) (now (run .entry)) ⌝ }
+    ensures within { λ r. ⌜ made r (λ n. n ≤ length (now (run .entry))) ⌝ }
     ensures reads_back { λ r. ⌜ ReadsBack size reads frame (answer r) (now (run .exit)) ⌝ }
 {
     let count = room_for(frame, run.len())?;

@@ -53,6 +53,7 @@ returns g c =
     record {
       told = c .in-Continue-count .ensures tt;
       after = after;
+      within = w .within;
       reads-back = λ m e.
           ap (frameAt (p .size) (p .reads)) after ∙ back ∙ ap (λ k. gives (f, k)) (sym (w .count) ∙ gives-same n m e);
     }

@@ -1,0 +1,7 @@
+// Frames and words as text.
+pub mod fault;
+pub mod frame_text;
+pub mod payload_text;
+mod scan;
+pub mod session;
+pub mod word_text;
