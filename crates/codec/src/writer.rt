@@ -16,7 +16,7 @@ ghost use Prim.Native.Nat.{_+_, _^_, _≤_, _<_};
 ghost use lib.ListN.{length, drop};
 ghost use Rattle.std.specs.Vec.{made};
 ghost use Rattle.frames.specs.Answers.{answer};
-ghost use Rattle.codec.specs.Words.{word};
+ghost use Rattle.codec.specs.Words.{word, headWord, kindCode};
 ghost use Rattle.codec.specs.Layout.{kindOf, fieldWords, frameWords, bodyFits, frameFits};
 ghost use Rattle.codec.specs.Writing.{writes, overwritten};
 ghost use Rattle.codec.specs.Reading.{countAfter};
@@ -75,6 +75,14 @@ fn room_for<P: Payload>(frame: Frame<P>, room: usize) -> Result<usize, Refusal>
     Ok(count)
 }
 
+// The head of a frame, with `count` words to follow.
+fn head_of<P: Payload>(frame: Frame<P>, count: usize) -> u32
+    requires { ⌜ frameFits frame ≡ true ⌝ ∗ ⌜ count < 4096 ⌝ }
+    ensures { λ r. ⌜ r ≡ headWord (kindCode (kindOf (frame .body))) (frame .sender) (frame .addressee) count ⌝ }
+{
+    head_word(kind_of(frame.body), frame.sender, frame.addressee, count)
+}
+
 // Writes the payload's words over the front of the run.
 fn put_payload<P: Payload>(payload: P, run: &mut [u32])
     requires { ⌜ size ≤ length (now run) ⌝ }
@@ -131,12 +139,6 @@ pub fn write_frame<P: Payload>(frame: Frame<P>, run: &mut [u32]) -> Result<usize
     ensures reads_back { λ r. ⌜ ReadsBack size reads frame (answer r) (now (run .exit)) ⌝ }
 {
     let count = room_for(frame, run.len())?;
-    let head = head_word(
-        kind_of(frame.body),
-        frame.sender,
-        frame.addressee,
-        count - 1,
-    );
-    put_words(head, frame.body, run);
+    put_words(head_of(frame, count - 1), frame.body, run);
     Ok(count)
 }

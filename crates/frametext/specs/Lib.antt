@@ -1,0 +1,5 @@
+pub mod Told
+pub mod Scan
+pub mod Numbers
+pub mod Payloads
+pub mod Frames

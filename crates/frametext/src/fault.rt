@@ -20,10 +20,6 @@ pub enum Expected {
     Door,
     Floor,
     End,
-    Command,
-    PayloadKind,
-    Words,
-    Room,
 }
 
 // What was wrong with a text.
@@ -59,10 +55,6 @@ pub impl fmt::Display for Expected as ExpectedDisplay {
             Expected::Door => "door=NUMBER",
             Expected::Floor => "floor=NUMBER",
             Expected::End => "the end of the line",
-            Expected::Command => "read, write or room",
-            Expected::PayloadKind => "line or event",
-            Expected::Words => "words of at most 8 hexadecimal digits",
-            Expected::Room => "room NUMBER",
         })
     }
 }

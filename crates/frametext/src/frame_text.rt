@@ -2,22 +2,34 @@
 use crate::fault::Expected;
 use crate::fault::Fault;
 use crate::payload_text::PayloadText;
-use crate::scan::behind;
+use crate::scan::cut;
 use crate::scan::ends;
+use crate::scan::field;
 use crate::scan::next_word;
-use crate::scan::number;
 use crate::scan::short_number;
 use frames::frame::Body;
 use frames::frame::Frame;
 use std::alloc::AllocError;
 use std::alloc::Global;
+ghost use mathlib.Core.Path.{_≡_};
+ghost use Rattle.std.specs.Of.String.{string-bytes};
+ghost use Rattle.std.specs.Vec.{made};
+ghost use Rattle.frametext.specs.Told.{told, tells};
+ghost use Rattle.frametext.specs.Frames.{Held, frameText, routeIn, reqSlotsIn, slotsIn, tokenIn, ackIn, kindIn, frameIn};
 
-// The text of a frame.
-pub fn show_frame<P: PayloadText>(frame: Frame<P>, heap: Global) -> Result<String, AllocError> {
+fn show_req_slots<P: PayloadText>(from: u32, to: u32, s: u64, n: u64, l: u64, heap: Global) -> Result<String, AllocError>
+    ensures { λ r. ⌜ made r (λ t. string-bytes t ≡ frameText spelling (record { sender = from; addressee = to; body = Body.ReqSlots s n l })) ⌝ }
+{
+    format!(heap, "{from}>{to} REQSLOTS s={s} n={n} l={l}")
+}
+
+fn show_words<P: PayloadText>(frame: Frame<P>, heap: Global) -> Result<String, AllocError>
+    ensures { λ r. ⌜ made r (λ s. string-bytes s ≡ frameText spelling frame) ⌝ }
+{
     let from = frame.sender;
     let to = frame.addressee;
     match frame.body {
-        Body::ReqSlots { s, n, l } => format!(heap, "{from}>{to} REQSLOTS s={s} n={n} l={l}"),
+        Body::ReqSlots { s, n, l } => show_req_slots::<P>(from, to, s, n, l, heap),
         Body::Slots { s, r, n } => format!(heap, "{from}>{to} SLOTS s={s} r={r} n={n}"),
         Body::Token { s, r, payload } => {
             let payload = payload.show(heap)?;
@@ -28,67 +40,94 @@ pub fn show_frame<P: PayloadText>(frame: Frame<P>, heap: Global) -> Result<Strin
     }
 }
 
-// The number of the field that comes next, and the text behind it.
-fn next_field<'a>(text: &'a str, label: &str, expected: Expected) -> Result<(u64, &'a str), Fault> {
-    let (word, rest) = next_word(text);
-    let n = number(behind(word, label, expected)?, expected)?;
-    Ok((n, rest))
+// The text of a frame, which reads back as that frame.
+pub fn show_frame<P: PayloadText>(frame: Frame<P>, heap: Global) -> Result<String, AllocError>
+    ensures text { λ r. ⌜ made r (λ s. string-bytes s ≡ frameText spelling frame) ⌝ }
+    ensures reads_back { λ _. ⌜ (Held frame → frameIn spelled (frameText spelling frame) ≡ tells frame) ⌝ }
+{
+    show_words(frame, heap)
 }
 
-fn parse_req_slots<P: PayloadText>(text: &str) -> Result<Body<P>, Fault> {
-    let (s, rest) = next_field(text, "s=", Expected::S)?;
-    let (n, rest) = next_field(rest, "n=", Expected::N)?;
-    let (l, rest) = next_field(rest, "l=", Expected::L)?;
+fn parse_req_slots<P: PayloadText>(text: &str) -> Result<Body<P>, Fault>
+    ensures { λ r. ⌜ told r ≡ reqSlotsIn spelled (now (text .entry)) ⌝ }
+{
+    let (first, rest) = next_word(text);
+    let s = field(first, "s=", Expected::S)?;
+    let (second, rest) = next_word(rest);
+    let n = field(second, "n=", Expected::N)?;
+    let (third, rest) = next_word(rest);
+    let l = field(third, "l=", Expected::L)?;
     ends(rest)?;
     Ok(Body::ReqSlots { s, n, l })
 }
 
-fn parse_slots<P: PayloadText>(text: &str) -> Result<Body<P>, Fault> {
-    let (s, rest) = next_field(text, "s=", Expected::S)?;
-    let (r, rest) = next_field(rest, "r=", Expected::R)?;
-    let (n, rest) = next_field(rest, "n=", Expected::N)?;
+fn parse_slots<P: PayloadText>(text: &str) -> Result<Body<P>, Fault>
+    ensures { λ r. ⌜ told r ≡ slotsIn spelled (now (text .entry)) ⌝ }
+{
+    let (first, rest) = next_word(text);
+    let s = field(first, "s=", Expected::S)?;
+    let (second, rest) = next_word(rest);
+    let r = field(second, "r=", Expected::R)?;
+    let (third, rest) = next_word(rest);
+    let n = field(third, "n=", Expected::N)?;
     ends(rest)?;
     Ok(Body::Slots { s, r, n })
 }
 
-fn parse_token<P: PayloadText>(text: &str) -> Result<Body<P>, Fault> {
-    let (s, rest) = next_field(text, "s=", Expected::S)?;
-    let (r, rest) = next_field(rest, "r=", Expected::R)?;
+fn parse_token<P: PayloadText>(text: &str) -> Result<Body<P>, Fault>
+    ensures { λ r. ⌜ told r ≡ tokenIn spelled (now (text .entry)) ⌝ }
+{
+    let (first, rest) = next_word(text);
+    let s = field(first, "s=", Expected::S)?;
+    let (second, rest) = next_word(rest);
+    let r = field(second, "r=", Expected::R)?;
     let payload = P::parse(rest)?;
     Ok(Body::Token { s, r, payload })
 }
 
-fn parse_ack<P: PayloadText>(text: &str) -> Result<Body<P>, Fault> {
-    let (s, rest) = next_field(text, "s=", Expected::S)?;
-    let (r, rest) = next_field(rest, "r=", Expected::R)?;
+fn parse_ack<P: PayloadText>(text: &str) -> Result<Body<P>, Fault>
+    ensures { λ r. ⌜ told r ≡ ackIn spelled (now (text .entry)) ⌝ }
+{
+    let (first, rest) = next_word(text);
+    let s = field(first, "s=", Expected::S)?;
+    let (second, rest) = next_word(rest);
+    let r = field(second, "r=", Expected::R)?;
     ends(rest)?;
     Ok(Body::Ack { s, r })
 }
 
-// The body that a text shows, from the name of its kind on.
-fn parse_body<P: PayloadText>(text: &str) -> Result<Body<P>, Fault> {
-    let (kind, rest) = next_word(text);
+// The body of that kind that a text shows.
+fn parse_kind<P: PayloadText>(kind: &str, text: &str) -> Result<Body<P>, Fault>
+    ensures { λ r. ⌜ told r ≡ kindIn spelled (now (kind .entry)) (now (text .entry)) ⌝ }
+{
     match kind {
-        "REQSLOTS" => parse_req_slots(rest),
-        "SLOTS" => parse_slots(rest),
-        "TOKEN" => parse_token(rest),
-        "ACK" => parse_ack(rest),
+        "REQSLOTS" => parse_req_slots(text),
+        "SLOTS" => parse_slots(text),
+        "TOKEN" => parse_token(text),
+        "ACK" => parse_ack(text),
         _ => Err(Fault::NotThere(Expected::Kind)),
     }
 }
 
 // The sender and the addressee, as `0>1`.
-fn parse_route(text: &str) -> Result<(u32, u32), Fault> {
-    let Some((from, to)) = text.split_once('>') else {
+fn parse_route(word: &str) -> Result<(u32, u32), Fault>
+    ensures { λ r. ⌜ told r ≡ routeIn (now (word .entry)) ⌝ }
+{
+    let Some((from, to)) = cut(word, '>') else {
         return Err(Fault::NotThere(Expected::Route));
     };
-    Ok((short_number(from, Expected::Route)?, short_number(to, Expected::Route)?))
+    let sender = short_number(from, Expected::Route)?;
+    let addressee = short_number(to, Expected::Route)?;
+    Ok((sender, addressee))
 }
 
-// The frame that a text shows.
-pub fn parse_frame<P: PayloadText>(text: &str) -> Result<Frame<P>, Fault> {
+// The frame that a text shows: its words one space apart, and nothing around them.
+pub fn parse_frame<P: PayloadText>(text: &str) -> Result<Frame<P>, Fault>
+    ensures { λ r. ⌜ told r ≡ frameIn spelled (now (text .entry)) ⌝ }
+{
     let (route, rest) = next_word(text);
+    let (kind, rest) = next_word(rest);
     let (sender, addressee) = parse_route(route)?;
-    let body = parse_body(rest)?;
+    let body = parse_kind(kind, rest)?;
     Ok(Frame { sender, addressee, body })
 }

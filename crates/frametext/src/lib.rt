@@ -3,5 +3,5 @@ pub mod fault;
 pub mod frame_text;
 pub mod payload_text;
 mod scan;
-pub mod session;
 pub mod word_text;
+pub use scan::next_word;

@@ -1,17 +1,37 @@
 // A text taken apart, piece by piece.
 use crate::fault::Expected;
 use crate::fault::Fault;
+ghost use mathlib.Core.Path.{_≡_};
+ghost use Prim.Native.Nat.{_<_};
+ghost use denote.Ref.{now as held};
+ghost use Rattle.std.specs.Options.{mapped};
+ghost use Rattle.frametext.specs.Told.{told, orUnread, endIn};
+ghost use Rattle.frametext.specs.Scan.{Cut, firstWord, otherWords, stripped};
+ghost use Rattle.frametext.specs.Numbers.{numberIn, signedIn, fieldIn, signedFieldIn};
+
+// The texts before and behind the first `at`, an ASCII character, if it comes.
+pub fn cut<'a>(text: &'a str, at: char) -> Option<(&'a str, &'a str)>
+    requires { ⌜ at < 128 ⌝ }
+    ensures { λ r. ⌜ Cut at (now (text .entry)) r ⌝ }
+{
+    text.split_once(at)
+}
 
 // The text up to the first space, and the text behind that space.
-pub fn next_word(text: &str) -> (&str, &str) {
-    match text.split_once(' ') {
+pub fn next_word(text: &str) -> (&str, &str)
+    ensures word { λ r. ⌜ now (r .0) ≡ firstWord (now (text .entry)) ⌝ }
+    ensures rest { λ r. ⌜ now (r .1) ≡ otherWords (now (text .entry)) ⌝ }
+{
+    match cut(text, ' ') {
         Some((word, rest)) => (word, rest),
         None => (text, ""),
     }
 }
 
 // The number that a text is.
-pub fn number(text: &str, expected: Expected) -> Result<u64, Fault> {
+pub fn number(text: &str, expected: Expected) -> Result<u64, Fault>
+    ensures { λ r. ⌜ told r ≡ orUnread (numberIn 64 (now (text .entry))) ⌝ }
+{
     match text.parse::<u64>() {
         Ok(n) => Ok(n),
         Err(_) => Err(Fault::NotThere(expected)),
@@ -19,7 +39,9 @@ pub fn number(text: &str, expected: Expected) -> Result<u64, Fault> {
 }
 
 // The number of 32 bits that a text is.
-pub fn short_number(text: &str, expected: Expected) -> Result<u32, Fault> {
+pub fn short_number(text: &str, expected: Expected) -> Result<u32, Fault>
+    ensures { λ r. ⌜ told r ≡ orUnread (numberIn 32 (now (text .entry))) ⌝ }
+{
     match text.parse::<u32>() {
         Ok(n) => Ok(n),
         Err(_) => Err(Fault::NotThere(expected)),
@@ -27,22 +49,55 @@ pub fn short_number(text: &str, expected: Expected) -> Result<u32, Fault> {
 }
 
 // The signed number that a text is.
-pub fn signed_number(text: &str, expected: Expected) -> Result<i32, Fault> {
+pub fn signed_number(text: &str, expected: Expected) -> Result<i32, Fault>
+    ensures { λ r. ⌜ told r ≡ orUnread (signedIn (now (text .entry))) ⌝ }
+{
     match text.parse::<i32>() {
         Ok(n) => Ok(n),
         Err(_) => Err(Fault::NotThere(expected)),
     }
 }
 
-// The text behind a label, as 5 in `s=5`.
-pub fn behind<'a>(word: &'a str, label: &str, expected: Expected) -> Result<&'a str, Fault> {
-    match word.strip_prefix(label) {
-        Some(rest) => Ok(rest),
+// The text behind a label that it begins with.
+pub fn strip<'a>(word: &'a str, label: &str) -> Option<&'a str>
+    ensures { λ r. ⌜ mapped held r ≡ stripped (now (label .entry)) (now (word .entry)) ⌝ }
+{
+    word.strip_prefix(label)
+}
+
+// The number behind a label, as 5 in `s=5`.
+pub fn field(word: &str, label: &str, expected: Expected) -> Result<u64, Fault>
+    ensures { λ r. ⌜ told r ≡ fieldIn 64 (now (label .entry)) (now (word .entry)) ⌝ }
+{
+    match strip(word, label) {
+        Some(digits) => number(digits, expected),
+        None => Err(Fault::NotThere(expected)),
+    }
+}
+
+// The number of 32 bits behind a label.
+pub fn short_field(word: &str, label: &str, expected: Expected) -> Result<u32, Fault>
+    ensures { λ r. ⌜ told r ≡ fieldIn 32 (now (label .entry)) (now (word .entry)) ⌝ }
+{
+    match strip(word, label) {
+        Some(digits) => short_number(digits, expected),
+        None => Err(Fault::NotThere(expected)),
+    }
+}
+
+// The signed number behind a label, as -2 in `step=-2`.
+pub fn signed_field(word: &str, label: &str, expected: Expected) -> Result<i32, Fault>
+    ensures { λ r. ⌜ told r ≡ signedFieldIn (now (label .entry)) (now (word .entry)) ⌝ }
+{
+    match strip(word, label) {
+        Some(digits) => signed_number(digits, expected),
         None => Err(Fault::NotThere(expected)),
     }
 }
 
 // Nothing more may follow.
-pub fn ends(rest: &str) -> Result<(), Fault> {
+pub fn ends(rest: &str) -> Result<(), Fault>
+    ensures { λ r. ⌜ told r ≡ endIn (now (rest .entry)) ⌝ }
+{
     if rest.is_empty() { Ok(()) } else { Err(Fault::NotThere(Expected::End)) }
 }

@@ -1,5 +1,6 @@
 // Frames to words and words to frames, by commands on standard input.
-use frametext::session::Session;
+mod session;
+use session::Session;
 use std::io;
 use std::io::BufRead;
 use std::io::BufReader;

@@ -25,6 +25,16 @@ use Rattle.payloads.proofs.Signs.{raised-lowered, lowered-raised}
 pub eventOf-parts : (x : LiftEvent) → eventOf (x .lift) (x .sort) ≡ Some x
 eventOf-parts x = checked-at _ _ (x .fits)
 
+-- what the invariant says, as orders
+pub record InRange (x : LiftEvent) : Type 0 where
+  pub lift : x .lift ≤ 65535
+  pub sort : sortFits (x .sort) ≡ true
+
+pub in-range : (x : LiftEvent) → InRange x
+in-range x =
+    let p = and-parts (leb (x .lift) 65535) (sortFits (x .sort)) (x .fits) in
+    record { lift = leb-true (x .lift) 65535 (p .0); sort = p .1 }
+
 -- a floor in range can be counted from −64 on
 floor-counts : (floor : ℤ) → sortFits (Stopped floor) ≡ true → pos 0 ≤ℤ (floor +ℤ pos 64)
 floor-counts floor fits =
@@ -70,13 +80,13 @@ detail-far lift code detail far = go (sortOf code detail) refl
 
 pub event-back : (x : LiftEvent) → eventReads (eventWords x) ≡ Some x
 event-back x =
-    let p = and-parts (leb (x .lift) 65535) (sortFits (x .sort)) (x .fits) in
-    let lift : x .lift < 2 ^ 16 = omega (arith, leb-true (x .lift) 65535 (p .0)) in
+    let r = in-range x in
+    let lift : x .lift < 2 ^ 16 = omega (arith, r .lift) in
     let code = sortCode (x .sort) in
     let detail = sortDetail (x .sort) in
     ap (λ l. eventBy l (sortOf ((code * 2 ^ 16 + x .lift) / 2 ^ 16) detail)) (mod-mul-add code (2 ^ 16) (x .lift) lift)
     ∙ ap (λ c. eventBy (x .lift) (sortOf c detail)) (div-mul-add code (2 ^ 16) (x .lift) lift)
-    ∙ ap (eventBy (x .lift)) (sort-back (x .sort) (p .1))
+    ∙ ap (eventBy (x .lift)) (sort-back (x .sort) (r .sort))
     ∙ eventOf-parts x
 
 read-by : (w v : ℕ) (x : LiftEvent) (o : Option Sort) → sortOf (w / 2 ^ 16) v ≡ o → eventBy (w % 2 ^ 16) o ≡ Some x → w ∷ v ∷ [] ≡ eventWords x

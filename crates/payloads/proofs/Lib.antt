@@ -1,4 +1,4 @@
 mod Made
 mod Signs
-mod LineLaws
-mod EventLaws
+pub mod LineLaws
+pub mod EventLaws

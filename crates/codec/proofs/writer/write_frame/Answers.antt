@@ -12,15 +12,15 @@ use Rattle.codec.proofs.Written.{frame-fits, gives-same, wrote}
 use Rattle.codec.proofs.ReadBack.{frame-back}
 use Rattle.codec.proofs.writer.write_frame.Needs as need
 
-pub head-word-head-requires : need.head-word-head-requires
-head-word-head-requires g c κs =
+pub head-of-requires : need.head-of-requires
+head-of-requires g c κs =
     let p = g .P·Payload in
+    let laws = g .P·Payload·met in
     let f = c .args .frame in
     let w = wrote (p .words) f _ _ (sym (c .in-Continue-count .ensures tt)) in
-    let fits = frame-fits f (w .fits) in
-    let counted = fields-counted (p .size) (p .words) (g .P·Payload·met .counted) (f .body) in
-    let few = count-few (p .size) (g .P·Payload·met .few) (kindOf (f .body)) in
-    (fits .sender, (fits .addressee, omega (arith, w .count)))
+    let counted = fields-counted (p .size) (p .words) (laws .counted) (f .body) in
+    let few = count-few (p .size) (laws .few) (kindOf (f .body)) in
+    (w .fits, omega (arith, w .count))
 
 pub put-words-requires : need.put-words-requires
 put-words-requires g c κs =
@@ -45,9 +45,7 @@ returns g c =
     let after : c .put-words .last .run ≡ frameWords (p .words) f ++ drop n run =
     c .put-words .ensures
     ∙ ap (λ h. h ∷ (fields ++ drop (countAfter (p .size) (kindOf (f .body)) + 1) run))
-    (c .head-word-head .ensures
-    ∙ ap (λ k. headWord (kindCode k) (f .sender) (f .addressee) (n - 1)) (c .kind-of .ensures)
-    ∙ ap (headWord (kindCode (kindOf (f .body))) (f .sender) (f .addressee)) long)
+    (c .head-of .ensures ∙ ap (headWord (kindCode (kindOf (f .body))) (f .sender) (f .addressee)) long)
     ∙ ap (λ k. frameWords (p .words) f ++ drop k run) whole in
     let back = frame-back (p .size) (p .words) (p .reads) (laws .few) (laws .counted) (laws .narrow) (laws .back) f (drop n run) (w .fits) in
     record {

@@ -1,32 +1,55 @@
 // Commands on words and frames, one to a line, each answered by a line of text.
-use crate::fault::Expected;
-use crate::fault::ExpectedDisplay;
-use crate::fault::Fault;
-use crate::frame_text::parse_frame;
-use crate::frame_text::show_frame;
-use crate::payload_text::LiftEventText;
-use crate::payload_text::PayloadText;
-use crate::payload_text::ProfileLineText;
-use crate::scan::next_word;
-use crate::word_text::parse_words;
-use crate::word_text::show_words;
 use codec::read_frame;
 use codec::write_frame;
 use frames::frame::Frame;
 use frames::refusal::Refusal;
 use frames::refusal::RefusalDebug;
+use frametext::fault::Expected;
+use frametext::fault::ExpectedDisplay;
+use frametext::fault::Fault;
+use frametext::frame_text::parse_frame;
+use frametext::frame_text::show_frame;
+use frametext::next_word;
+use frametext::payload_text::LiftEventText;
+use frametext::payload_text::PayloadText;
+use frametext::payload_text::ProfileLineText;
+use frametext::word_text::parse_words;
+use frametext::word_text::show_words;
 use payloads::event::LiftEvent;
 use payloads::line::ProfileLine;
 use std::alloc::AllocError;
 use std::alloc::Global;
+use std::fmt;
 
 // The most words that a frame takes.
 const LONGEST: usize = 7;
 
+// What a command should have had.
+#[derive(Clone, Copy)]
+enum Wanted {
+    Command,
+    PayloadKind,
+    Words,
+    Room,
+    Part(Expected),
+}
+
+impl fmt::Display for Wanted as WantedDisplay {
+    fn fmt<W: fmt::Write>(&self, f: &mut fmt::Formatter<W>) -> fmt::Result {
+        match self {
+            Wanted::Command => f.write_str("read, write or room"),
+            Wanted::PayloadKind => f.write_str("line or event"),
+            Wanted::Words => f.write_str("words of at most 8 hexadecimal digits"),
+            Wanted::Room => f.write_str("room NUMBER"),
+            Wanted::Part(expected) => expected.fmt(f),
+        }
+    }
+}
+
 // Why a command has no answer.
 enum Unanswered {
     Memory,
-    NotThere(Expected),
+    Unclear(Wanted),
 }
 
 impl From<AllocError> for Unanswered as UnansweredFromAlloc {
@@ -44,7 +67,7 @@ fn show_refusal(refusal: Refusal, heap: Global) -> Result<String, AllocError> {
 // The answer to words that should be a frame.
 fn answer_read<P: PayloadText>(text: &str, heap: Global) -> Result<String, Unanswered> {
     let Some(words) = parse_words(text, heap)? else {
-        return Err(Unanswered::NotThere(Expected::Words));
+        return Err(Unanswered::Unclear(Wanted::Words));
     };
     match read_frame::<P>(words.as_slice()) {
         Ok((frame, used)) => {
@@ -69,7 +92,7 @@ fn answer_write<P: PayloadText>(text: &str, room: usize, heap: Global) -> Result
     let frame = match parse_frame::<P>(text) {
         Ok(frame) => frame,
         Err(Fault::NoPayload(refusal)) => return Ok(show_refusal(refusal, heap)?),
-        Err(Fault::NotThere(expected)) => return Err(Unanswered::NotThere(expected)),
+        Err(Fault::NotThere(expected)) => return Err(Unanswered::Unclear(Wanted::Part(expected))),
     };
     let mut run = [0; LONGEST];
     Ok(show_written(frame, &mut run[0..room.min(LONGEST)], heap)?)
@@ -109,19 +132,19 @@ impl Session {
             ("read", "event") => answer_read::<LiftEvent>(rest, heap),
             ("write", "line") => answer_write::<ProfileLine>(rest, self.room, heap),
             ("write", "event") => answer_write::<LiftEvent>(rest, self.room, heap),
-            ("read", _) => Err(Unanswered::NotThere(Expected::PayloadKind)),
-            ("write", _) => Err(Unanswered::NotThere(Expected::PayloadKind)),
+            ("read", _) => Err(Unanswered::Unclear(Wanted::PayloadKind)),
+            ("write", _) => Err(Unanswered::Unclear(Wanted::PayloadKind)),
             ("room", words) => {
                 let Ok(room) = words.parse::<usize>() else {
-                    return Err(Unanswered::NotThere(Expected::Room));
+                    return Err(Unanswered::Unclear(Wanted::Room));
                 };
                 if !rest.is_empty() {
-                    return Err(Unanswered::NotThere(Expected::End));
+                    return Err(Unanswered::Unclear(Wanted::Part(Expected::End)));
                 }
                 self.room = room;
                 Ok(format!(heap, "room for {room} words")?)
             }
-            _ => Err(Unanswered::NotThere(Expected::Command)),
+            _ => Err(Unanswered::Unclear(Wanted::Command)),
         }
     }
 
@@ -136,9 +159,9 @@ impl Session {
         match self.answer_command(text, heap) {
             Ok(told) => Ok(Some(told)),
             Err(Unanswered::Memory) => Err(AllocError),
-            Err(Unanswered::NotThere(expected)) => {
+            Err(Unanswered::Unclear(wanted)) => {
                 let number = self.lines;
-                Ok(Some(format!(heap, "line {number}: expected {expected}")?))
+                Ok(Some(format!(heap, "line {number}: expected {wanted}")?))
             }
         }
     }

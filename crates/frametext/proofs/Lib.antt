@@ -1,0 +1,4 @@
+mod Cuts
+mod Digits
+mod Spelled
+mod Framed

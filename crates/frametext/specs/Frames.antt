@@ -1,0 +1,89 @@
+-- The text of a frame, as `0>1 REQSLOTS s=0 n=3 l=0`, and the frame in a text.
+use mathlib.Core.Bool.{cond}
+use mathlib.Core.List.{List, _++_}
+use Prim.Native.Nat.{ℕ, _^_, _<_}
+use lib.Chars.{codes}
+use Rattle.std.specs.shelf.Text.{sameBytes}
+use Rattle.std.specs.Written.{decimal}
+use Rattle.frames.specs.declared.frame.Frame.{Frame}
+use Rattle.frames.specs.declared.frame.Body.{Body}
+use Rattle.frames.specs.declared.frame.Body.the-variants.{ReqSlots, Slots, Token, Ack}
+use Rattle.frametext.specs.Scan.{before, behind, firstWord, otherWords}
+use Rattle.frametext.specs.Told.{Told, tells, unread, andTell, orUnread, endIn}
+use Rattle.frametext.specs.Numbers.{numberIn, fieldIn}
+
+-- The numbers of a frame that its types can hold: nodes of 32 bits, fields of 64.
+abbrev pub bodyHeld : {P : Type 0} → Body P → Type 0
+bodyHeld (ReqSlots s n l) = (s < 2 ^ 64) × (n < 2 ^ 64) × (l < 2 ^ 64)
+bodyHeld (Slots s r n) = (s < 2 ^ 64) × (r < 2 ^ 64) × (n < 2 ^ 64)
+bodyHeld (Token s r p) = (s < 2 ^ 64) × (r < 2 ^ 64)
+bodyHeld (Ack s r) = (s < 2 ^ 64) × (r < 2 ^ 64)
+
+abbrev pub Held : {P : Type 0} → Frame P → Type 0
+Held f = (f .sender < 2 ^ 32) × (f .addressee < 2 ^ 32) × bodyHeld (f .body)
+
+-- The number of a field that comes first in a text.
+abbrev pub firstField : List ℕ → List ℕ → Told ℕ
+firstField label bs = fieldIn 64 label (firstWord bs)
+
+-- The sender and the addressee, as `0>1`.
+abbrev pub routeIn : List ℕ → Told (ℕ × ℕ)
+routeIn word =
+    andTell (orUnread (behind 62 word)) (λ to.
+    andTell (orUnread (numberIn 32 (before 62 word))) (λ sender.
+    andTell (orUnread (numberIn 32 to)) (λ addressee. tells (sender, addressee))))
+
+module _ {P : Type 0} (spelling : P → List ℕ) where
+  -- The text of a body, behind a space.
+  abbrev pub bodyText : Body P → List ℕ
+  bodyText (ReqSlots s n l) = codes " REQSLOTS s=" ++ (decimal s ++ (codes " n=" ++ (decimal n ++ (codes " l=" ++ decimal l))))
+  bodyText (Slots s r n) = codes " SLOTS s=" ++ (decimal s ++ (codes " r=" ++ (decimal r ++ (codes " n=" ++ decimal n))))
+  bodyText (Token s r p) = codes " TOKEN s=" ++ (decimal s ++ (codes " r=" ++ (decimal r ++ (codes " " ++ spelling p))))
+  bodyText (Ack s r) = codes " ACK s=" ++ (decimal s ++ (codes " r=" ++ decimal r))
+
+  -- The text of a frame, where `spelling` gives that of a payload.
+  abbrev pub frameText : Frame P → List ℕ
+  frameText f = decimal (f .sender) ++ (codes ">" ++ (decimal (f .addressee) ++ bodyText (f .body)))
+
+module _ {P : Type 0} (spelled : List ℕ → Told P) where
+  -- The fields of each kind of body, and nothing behind them.
+  abbrev pub reqSlotsIn : List ℕ → Told (Body P)
+  reqSlotsIn bs =
+      andTell (firstField (codes "s=") bs) (λ s.
+      andTell (firstField (codes "n=") (otherWords bs)) (λ n.
+      andTell (firstField (codes "l=") (otherWords (otherWords bs))) (λ l.
+      andTell (endIn (otherWords (otherWords (otherWords bs)))) (λ _. tells (ReqSlots s n l)))))
+
+  abbrev pub slotsIn : List ℕ → Told (Body P)
+  slotsIn bs =
+      andTell (firstField (codes "s=") bs) (λ s.
+      andTell (firstField (codes "r=") (otherWords bs)) (λ r.
+      andTell (firstField (codes "n=") (otherWords (otherWords bs))) (λ n.
+      andTell (endIn (otherWords (otherWords (otherWords bs)))) (λ _. tells (Slots s r n)))))
+
+  abbrev pub tokenIn : List ℕ → Told (Body P)
+  tokenIn bs =
+      andTell (firstField (codes "s=") bs) (λ s.
+      andTell (firstField (codes "r=") (otherWords bs)) (λ r.
+      andTell (spelled (otherWords (otherWords bs))) (λ p. tells (Token s r p))))
+
+  abbrev pub ackIn : List ℕ → Told (Body P)
+  ackIn bs =
+      andTell (firstField (codes "s=") bs) (λ s.
+      andTell (firstField (codes "r=") (otherWords bs)) (λ r.
+      andTell (endIn (otherWords (otherWords bs))) (λ _. tells (Ack s r))))
+
+  -- The body of that kind in a text.
+  abbrev pub kindIn : List ℕ → List ℕ → Told (Body P)
+  kindIn kind bs =
+      cond (sameBytes kind (codes "REQSLOTS")) (reqSlotsIn bs)
+      (cond (sameBytes kind (codes "SLOTS")) (slotsIn bs)
+      (cond (sameBytes kind (codes "TOKEN")) (tokenIn bs)
+      (cond (sameBytes kind (codes "ACK")) (ackIn bs) unread)))
+
+  -- The frame in a text, where `spelled` tells a payload.
+  abbrev pub frameIn : List ℕ → Told (Frame P)
+  frameIn bs =
+      andTell (routeIn (firstWord bs)) (λ route.
+      andTell (kindIn (firstWord (otherWords bs)) (otherWords (otherWords bs))) (λ body.
+      tells (record { sender = route .0; addressee = route .1; body = body })))
