@@ -2,3 +2,4 @@ mod Cuts
 mod Digits
 mod Spelled
 mod Framed
+mod Shown

@@ -30,8 +30,8 @@ firstField label bs = fieldIn 64 label (firstWord bs)
 abbrev pub routeIn : List ℕ → Told (ℕ × ℕ)
 routeIn word =
     andTell (orUnread (behind 62 word)) (λ to.
-    andTell (orUnread (numberIn 32 (before 62 word))) (λ sender.
-    andTell (orUnread (numberIn 32 to)) (λ addressee. tells (sender, addressee))))
+    andTell (orUnread (numberIn 10 32 (before 62 word))) (λ sender.
+    andTell (orUnread (numberIn 10 32 to)) (λ addressee. tells (sender, addressee))))
 
 module _ {P : Type 0} (spelling : P → List ℕ) where
   -- The text of a body, behind a space.

@@ -3,3 +3,4 @@ pub mod Scan
 pub mod Numbers
 pub mod Payloads
 pub mod Frames
+pub mod Words

@@ -38,7 +38,7 @@ sortText (DoorFault code) = codes " door=" ++ decimal code
 sortText (Stopped floor) = codes " floor=" ++ signed floor
 
 abbrev pub doorOrFloorIn : Option (List ℕ) → List ℕ → Told Sort
-doorOrFloorIn (Some ds) bs = andTell (orUnread (numberIn 32 ds)) (λ code. tells (DoorFault code))
+doorOrFloorIn (Some ds) bs = andTell (orUnread (numberIn 10 32 ds)) (λ code. tells (DoorFault code))
 doorOrFloorIn None bs = andTell (signedFieldIn (codes "floor=") bs) (λ floor. tells (Stopped floor))
 
 abbrev pub sortIn : List ℕ → Told Sort

@@ -30,7 +30,7 @@ pub fn next_word(text: &str) -> (&str, &str)
 
 // The number that a text is.
 pub fn number(text: &str, expected: Expected) -> Result<u64, Fault>
-    ensures { λ r. ⌜ told r ≡ orUnread (numberIn 64 (now (text .entry))) ⌝ }
+    ensures { λ r. ⌜ told r ≡ orUnread (numberIn 10 64 (now (text .entry))) ⌝ }
 {
     match text.parse::<u64>() {
         Ok(n) => Ok(n),
@@ -40,7 +40,7 @@ pub fn number(text: &str, expected: Expected) -> Result<u64, Fault>
 
 // The number of 32 bits that a text is.
 pub fn short_number(text: &str, expected: Expected) -> Result<u32, Fault>
-    ensures { λ r. ⌜ told r ≡ orUnread (numberIn 32 (now (text .entry))) ⌝ }
+    ensures { λ r. ⌜ told r ≡ orUnread (numberIn 10 32 (now (text .entry))) ⌝ }
 {
     match text.parse::<u32>() {
         Ok(n) => Ok(n),

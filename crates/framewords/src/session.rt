@@ -13,12 +13,14 @@ use frametext::next_word;
 use frametext::payload_text::LiftEventText;
 use frametext::payload_text::PayloadText;
 use frametext::payload_text::ProfileLineText;
-use frametext::word_text::parse_words;
+use frametext::word_text::parse_word;
 use frametext::word_text::show_words;
+use frametext::word_text::with_word;
 use payloads::event::LiftEvent;
 use payloads::line::ProfileLine;
 use std::alloc::AllocError;
 use std::alloc::Global;
+use std::alloc::Refused;
 use std::fmt;
 
 // The most words that a frame takes.
@@ -58,17 +60,33 @@ impl From<AllocError> for Unanswered as UnansweredFromAlloc {
     }
 }
 
+impl<T: Drop> From<Refused<T>> for Unanswered as UnansweredFromRefused {
+    fn from(_e: Refused<T>) -> Unanswered {
+        Unanswered::Memory
+    }
+}
+
 // The text of a refusal.
 fn show_refusal(refusal: Refusal, heap: Global) -> Result<String, AllocError> {
     let number = refusal.number();
     format!(heap, "refused {number} {refusal:?}")
 }
 
+// The words that a text shows.
+fn parse_words(text: &str, heap: Global) -> Result<Vec<u32>, Unanswered> {
+    let mut words = Vec::new(heap);
+    for word in text.split_whitespace() {
+        let Some(w) = parse_word(word) else {
+            return Err(Unanswered::Unclear(Wanted::Words));
+        };
+        words.push(w)?;
+    }
+    Ok(words)
+}
+
 // The answer to words that should be a frame.
 fn answer_read<P: PayloadText>(text: &str, heap: Global) -> Result<String, Unanswered> {
-    let Some(words) = parse_words(text, heap)? else {
-        return Err(Unanswered::Unclear(Wanted::Words));
-    };
+    let words = parse_words(text, heap)?;
     match read_frame::<P>(words.as_slice()) {
         Ok((frame, used)) => {
             let frame = show_frame(frame, heap)?;
@@ -102,10 +120,7 @@ fn answer_write<P: PayloadText>(text: &str, room: usize, heap: Global) -> Result
 fn squeezed(text: &str, heap: Global) -> Result<String, AllocError> {
     let mut out = String::new(heap);
     for word in text.split_whitespace() {
-        if !out.is_empty() {
-            out.push(' ')?;
-        }
-        out.push_str(word)?;
+        out = with_word(out.as_str(), word, heap)?;
     }
     Ok(out)
 }

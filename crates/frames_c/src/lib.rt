@@ -1,0 +1,3 @@
+// The codec for C callers, on frames whose payload is a profile line.
+mod calls;
+pub mod line_frame;
