@@ -27,7 +27,7 @@ use Rattle.codec.specs.Layout.{lastClock, kindOf, fieldWords, frameWords, body
 use Rattle.codec.specs.Writing.{writes}
 use Rattle.codec.specs.Reading.{headed, countAfter, fieldOf, allOf, payloadOf, bodyOf, frameOf, frameAt}
 use Rattle.codec.specs.Trips.{WritesBack}
-use Rattle.codec.proofs.Written.{gives-same, wrote, writes-whole}
+use Rattle.codec.proofs.Written.{gives-same, wrote, writes-fitting}
 
 gave : {A B : Type 0} (a : Answer A) (f : A → Answer B) (y : B) → andThen a f ≡ gives y → (x : A) × (a ≡ gives x) × (f x ≡ gives y)
 gave (gives x) f y e = (x, refl, e)
@@ -176,7 +176,7 @@ module _ {P : Type 0} (size : ℕ) (words : P → List ℕ) (reads : List ℕ �
       ∙ ap (headWord (kindCode (kindOf b)) (headSender h) (headAddressee h)) (count ∙ counted) in
       let sender = le-leb (headSender h) 255 (omega arith) in
       let addressee = le-leb (headAddressee h) 255 (omega arith) in (
-        writes-whole words (headed h b) (m + 1) (and-from _ _ sender (and-from _ _ addressee (o .fits))) (omega arith),
+        writes-fitting words (headed h b) (m + 1) (m + 1) (and-from _ _ sender (and-from _ _ addressee (o .fits))) (omega arith) (omega arith),
         ap (λ j. take j (h ∷ ws)) one ∙ ap (λ xs. h ∷ xs) (o .words-are) ∙ ap (λ x. x ∷ fieldWords words b) head,
       )
 

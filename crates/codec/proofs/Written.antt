@@ -47,9 +47,9 @@ wrote words f room n e =
     let p = passed (frameFits f) (leb m room) m n e in
     record { fits = p .0; count = p .2; within = omega (arith, leb-true m room (p .1), p .2) }
 
-pub writes-whole : {P : Type 0} (words : P → List ℕ) (f : Frame P) (n : ℕ) → frameFits f ≡ true → n ≡ length (frameWords words f)
-    → writes words f n ≡ gives n
-writes-whole words f n fits count =
+pub writes-fitting : {P : Type 0} (words : P → List ℕ) (f : Frame P) (room n : ℕ) → frameFits f ≡ true → n ≡ length (frameWords words f)
+    → n ≤ room → writes words f room ≡ gives n
+writes-fitting words f room n fits count within =
     let m = length (frameWords words f) in
-    let room : leb m n ≡ true = le-leb m n (omega arith) in
-    rw (fits, room) (ap gives (sym count))
+    let enough : leb m room ≡ true = le-leb m room (omega arith) in
+    rw (fits, enough) (ap gives (sym count))

@@ -61,20 +61,6 @@ fn word_count<P: Payload>(frame: Frame<P>) -> usize
     count_after::<P>(kind_of(frame.body)) + 1
 }
 
-// How many words a frame takes, where a run of `room` words can hold them.
-fn room_for<P: Payload>(frame: Frame<P>, room: usize) -> Result<usize, Refusal>
-    ensures { λ r. ⌜ answer r ≡ writes words frame room ⌝ }
-{
-    if !frame_fits(frame) {
-        return Err(Refusal::TooLarge);
-    }
-    let count = word_count(frame);
-    if room < count {
-        return Err(Refusal::NoRoom);
-    }
-    Ok(count)
-}
-
 // The head of a frame, with `count` words to follow.
 fn head_of<P: Payload>(frame: Frame<P>, count: usize) -> u32
     requires { ⌜ frameFits frame ≡ true ⌝ ∗ ⌜ count < 4096 ⌝ }
@@ -138,7 +124,13 @@ pub fn write_frame<P: Payload>(frame: Frame<P>, run: &mut [u32]) -> Result<usize
     ensures within { λ r. ⌜ made r (λ n. n ≤ length (now (run .entry))) ⌝ }
     ensures reads_back { λ r. ⌜ ReadsBack size reads frame (answer r) (now (run .exit)) ⌝ }
 {
-    let count = room_for(frame, run.len())?;
+    if !frame_fits(frame) {
+        return Err(Refusal::TooLarge);
+    }
+    let count = word_count(frame);
+    if run.len() < count {
+        return Err(Refusal::NoRoom);
+    }
     put_words(head_of(frame, count - 1), frame.body, run);
     Ok(count)
 }

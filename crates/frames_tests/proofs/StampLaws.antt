@@ -1,17 +1,23 @@
 -- The laws of a stamp's words.
-use mathlib.Core.Path.{_≡_, ap, sym, _∙_}
-use mathlib.Core.Bool.{true, _&&_}
+use mathlib.Core.Path.{_≡_, refl, ap, _∙_}
+use mathlib.Core.Bool.{Bool, true, false, cond, _&&_}
 use mathlib.Core.List.{List, [], _∷_}
 use Prim.Native.Nat.{ℕ, _+_, _*_, _/_, _%_, _^_, _<_}
 use native.Mathlib.Omega.{arith}
 use lib.Dec.{ltb}
+use Rattle.std.specs.declared.option.Option.{Option}
 use Rattle.std.specs.declared.option.Option.the-variants.{Some, None}
 use Rattle.std.proofs.shelf.Bits.{shr-shr}
 use Rattle.std.proofs.shelf.Tests.{ltb-true, lt-ltb, and-parts, and-from}
 use Rattle.frames_tests.specs.declared.stamp.Stamp.{Stamp}
 use Rattle.frames_tests.specs.Ranges.{stampFits}
 use Rattle.frames_tests.specs.Stamps.{stampOf, partOf, stampWords, joined, stampBy, stampReads}
-use Rattle.frames_tests.proofs.Made.{checked-at, checked-only, under}
+use Rattle.payloads.proofs.Made.{checked-at, checked-only}
+
+-- what stands under a test, where it is something
+under : {X : Type 0} (t : Bool) (o : Option X) (x : X) → cond t o None ≡ Some x → (t ≡ true) × (o ≡ Some x)
+under true o x e = (refl, e)
+under false o x e = let z : _≡_ {A = ℕ} 0 1 = cc in absurd (omega arith)
 
 -- a stamp is the one with its value
 pub stampOf-value : (x : Stamp) → stampOf (x .value) ≡ Some x

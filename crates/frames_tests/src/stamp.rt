@@ -8,7 +8,7 @@ mod methods;
 pub use methods::StampPayload;
 
 // A stamp takes the most words that a payload can take, and fills each.
-#[derive(Clone, Copy)]
+#[derive(Clone, Copy, PartialEq, Eq, Debug)]
 pub struct Stamp {
     // below 2^112
     value: u128,

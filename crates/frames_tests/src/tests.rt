@@ -1,14 +1,25 @@
 // What the codec does on examples.
 use crate::stamp::Stamp;
+use crate::stamp::StampDebug;
+use crate::stamp::StampPartialEq;
 use crate::stamp::StampPayload;
 use codec::read_frame;
 use codec::write_frame;
 use frames::frame::Body;
 use frames::frame::Frame;
+use frames::frame::FrameDebug;
+use frames::frame::FramePartialEq;
 use frames::refusal::Refusal;
 use frames::refusal::RefusalDebug;
+use payloads::event::LiftEvent;
+use payloads::event::LiftEventDebug;
+use payloads::event::LiftEventPartialEq;
+use payloads::event::LiftEventPayload;
 use payloads::line::ProfileLine;
+use payloads::line::ProfileLineDebug;
+use payloads::line::ProfileLinePartialEq;
 use payloads::line::ProfileLinePayload;
+use payloads::sort::Sort;
 use std::test::*;
 
 // A body on its way.
@@ -20,81 +31,81 @@ fn sent<P>(sender: u32, addressee: u32, body: Body<P>) -> Frame<P> {
     }
 }
 
-// A body as numbers: its kind, its fields in order, and the step of a line.
-fn numbers(body: Body<ProfileLine>) -> (u8, [u64; 3], i32) {
-    match body {
-        Body::ReqSlots { s, n, l } => (1, [s, n, l], 0),
-        Body::Slots { s, r, n } => (2, [s, r, n], 0),
-        Body::Token { s, r, payload } => (3, [s, r, u64::from(payload.place())], payload.step()),
-        Body::Ack { s, r } => (4, [s, r, 0], 0),
-    }
-}
-
-// Writing the frame gives these words and their count, and reading the words gives the frame and that count.
-fn both_ways(frame: Frame<ProfileLine>, words: &[u32]) -> Result<(), Fail> {
+#[test]
+fn words_of_a_request() -> Result<(), Fail> {
+    let frame: Frame<ProfileLine> = sent(0, 1, Body::ReqSlots { s: 0, n: 3, l: 0 });
+    let words = [0x1000_1003, 0x8000_0000, 0xa000_0003, 0xb000_0000];
     let mut run = [0; 4];
-    let count = write_frame(frame, &mut run)?;
-    check(count <= 4)?;
-    check_eq(&run[0..count], words)?;
-    let (back, taken) = read_frame::<ProfileLine>(words)?;
-    check_eq(
-        (back.sender, back.addressee),
-        (frame.sender, frame.addressee),
-    )?;
-    check_eq(numbers(back.body), numbers(frame.body))?;
-    check_eq(taken, words.len())
+    check_eq(write_frame(frame, &mut run)?, 4)?;
+    check_eq(run, words)?;
+    check_eq(read_frame::<ProfileLine>(&words)?, (frame, 4))
 }
 
 #[test]
-fn examples() -> Result<(), Fail> {
-    let (s, r, payload) = (1, 2, ProfileLine::new(5, -2)?);
-    let request = sent(0, 1, Body::ReqSlots { s: 0, n: 3, l: 0 });
-    let slots = sent(2, 5, Body::Slots { s: 7, r: 300, n: 2 });
-    let token = sent(255, 0, Body::Token { s, r, payload });
-    let ack = sent(
-        3,
-        4,
-        Body::Ack {
-            s: 268_435_455,
-            r: 0,
+fn words_of_a_line() -> Result<(), Fail> {
+    let payload = ProfileLine::new(5, -2)?;
+    let frame = sent(
+        255,
+        0,
+        Body::Token {
+            s: 1,
+            r: 2,
+            payload,
         },
     );
-    both_ways(
-        request,
-        &[0x1000_1003, 0x8000_0000, 0xa000_0003, 0xb000_0000],
-    )?;
-    both_ways(slots, &[0x2020_5003, 0x8000_0007, 0x9000_012c, 0xa000_0002])?;
-    both_ways(token, &[0x3ff0_0003, 0x8000_0001, 0x9000_0002, 0xc005_7ffe])?;
-    both_ways(ack, &[0x4030_4002, 0x8fff_ffff, 0x9000_0000])
+    let words = [0x3ff0_0003, 0x8000_0001, 0x9000_0002, 0xc005_7ffe];
+    let mut run = [0; 4];
+    check_eq(write_frame(frame, &mut run)?, 4)?;
+    check_eq(run, words)?;
+    check_eq(read_frame::<ProfileLine>(&words)?, (frame, 4))
 }
 
 #[test]
-fn line_is_read() -> Result<(), Fail> {
-    let words = [0x3000_1003, 0x8000_0001, 0x9000_0002, 0xc005_7ffe];
-    let (frame, _) = read_frame::<ProfileLine>(&words)?;
-    check_eq(numbers(frame.body), (3, [1, 2, 5], -2))
+fn words_of_an_event() -> Result<(), Fail> {
+    let payload = LiftEvent::new(12, Sort::Stopped { floor: -3 })?;
+    let frame = sent(
+        2,
+        5,
+        Body::Token {
+            s: 7,
+            r: 2,
+            payload,
+        },
+    );
+    let words = [
+        0x3020_5004,
+        0x8000_0007,
+        0x9000_0002,
+        0xc003_000c,
+        0xc000_003d,
+    ];
+    let mut run = [0; 5];
+    check_eq(write_frame(frame, &mut run)?, 5)?;
+    check_eq(run, words)?;
+    check_eq(read_frame::<LiftEvent>(&words)?, (frame, 5))
 }
 
 #[test]
 fn stamp_in_a_longer_run() -> Result<(), Fail> {
-    let (s, r, payload) = (9, 8, Stamp::new(0x1234_5678_9abc_def0_0112_2334_4556)?);
-    let mut run = [0xeeee_eeee; 9];
-    let count = write_frame(sent(6, 7, Body::Token { s, r, payload }), &mut run)?;
-    check_eq(count, 7)?;
-    check_eq(&run[0..3], &[0x3060_7006, 0x8000_0009, 0x9000_0008])?;
-    check_eq(&run[3..5], &[0xc123_4567, 0xc89a_bcde])?;
-    check_eq(&run[5..7], &[0xcf00_1122, 0xc334_4556])?;
-    check_eq(&run[7..9], &[0xeeee_eeee, 0xeeee_eeee])?;
-    let (back, taken) = read_frame::<Stamp>(&run)?;
-    check_eq((back.sender, back.addressee, taken), (6, 7, 7))?;
-    match back.body {
+    let payload = Stamp::new(0x1234_5678_9abc_def0_0112_2334_4556)?;
+    let frame = sent(
+        6,
+        7,
         Body::Token {
-            s,
-            r,
-            payload: stamp,
-        } => check_eq((s, r, stamp.value()), (9, 8, payload.value())),
-        _ => Err(Fail::new("it reads as no token")),
-    }
+            s: 9,
+            r: 8,
+            payload,
+        },
+    );
+    let mut run = [0xeeee_eeee; 9];
+    check_eq(write_frame(frame, &mut run)?, 7)?;
+    check_eq(&run[0..3], &[0x3060_7006, 0x8000_0009, 0x9000_0008])?;
+    check_eq(
+        &run[3..7],
+        &[0xc123_4567, 0xc89a_bcde, 0xcf00_1122, 0xc334_4556],
+    )?;
+    check_eq(&run[7..9], &[0xeeee_eeee, 0xeeee_eeee])?;
+    check_eq(read_frame::<Stamp>(&run)?, (frame, 7))
 }
 
 // The call says no, with that number.

@@ -74,6 +74,7 @@ strip-read label bs (Some x) h =
 pub cut-read : (c : ℕ) (bs : List ℕ) (r : Option (RefT (List ℕ) × RefT (List ℕ))) → SplitAt c bs r → c < 128 → Cut c bs r
 cut-read c bs None h ascii = let lacks = split-parts c bs None h ascii in (before-all c bs lacks, behind-none c bs lacks)
 cut-read c bs (Some x) h ascii =
-    let p = split-parts c bs (Some x) h ascii in
-    (sym (ap (before c) (p .0) ∙ before-cut c (x .0 .now) (x .1 .now) (p .1)),
-     ap (behind c) (p .0) ∙ behind-cut c (x .0 .now) (x .1 .now) (p .1))
+    let p = split-parts c bs (Some x) h ascii in (
+      sym (ap (before c) (p .0) ∙ before-cut c (x .0 .now) (x .1 .now) (p .1)),
+      ap (behind c) (p .0) ∙ behind-cut c (x .0 .now) (x .1 .now) (p .1),
+    )

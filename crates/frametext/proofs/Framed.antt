@@ -120,8 +120,8 @@ module _ {P : Type 0} (spelling : P → List ℕ) (spelled : List ℕ → Told P
       let route = decimal a ++ (codes ">" ++ decimal b) in
       let body = drop 1 (bodyText spelling (f .body)) in
       let apart : frameText spelling f ≡ route ++ (32 ∷ body) =
-            ap (λ bs. decimal a ++ (codes ">" ++ (decimal b ++ bs))) (body-spaced (f .body))
-            ∙ sym (append-assoc (decimal a) (codes ">" ++ decimal b) (32 ∷ body)) in
+      ap (λ bs. decimal a ++ (codes ">" ++ (decimal b ++ bs))) (body-spaced (f .body))
+      ∙ sym (append-assoc (decimal a) (codes ">" ++ decimal b) (32 ∷ body)) in
       let spaceless = route-no-space a b (held .0) (held .1) in
       let arrowless = decimal-lacks 62 a (omega (arith, held .0)) (λ d. omega (arith, d)) in
       ap (frameIn spelled) apart

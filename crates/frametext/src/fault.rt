@@ -41,20 +41,22 @@ pub impl From<Refusal> for Fault as FaultFromRefusal {
 
 pub impl fmt::Display for Expected as ExpectedDisplay {
     fn fmt<W: fmt::Write>(&self, f: &mut fmt::Formatter<W>) -> fmt::Result {
-        f.write_str(match self {
-            Expected::Route => "SENDER>ADDRESSEE",
-            Expected::Kind => "REQSLOTS, SLOTS, TOKEN or ACK",
-            Expected::S => "s=NUMBER",
-            Expected::R => "r=NUMBER",
-            Expected::N => "n=NUMBER",
-            Expected::L => "l=NUMBER",
-            Expected::Place => "place=NUMBER",
-            Expected::Step => "step=NUMBER",
-            Expected::Lift => "lift=NUMBER",
-            Expected::Sort => "alarm, door=NUMBER or floor=NUMBER",
-            Expected::Door => "door=NUMBER",
-            Expected::Floor => "floor=NUMBER",
-            Expected::End => "the end of the line",
-        })
+        f.write_str(
+            match self {
+                Expected::Route => "SENDER>ADDRESSEE",
+                Expected::Kind => "REQSLOTS, SLOTS, TOKEN or ACK",
+                Expected::S => "s=NUMBER",
+                Expected::R => "r=NUMBER",
+                Expected::N => "n=NUMBER",
+                Expected::L => "l=NUMBER",
+                Expected::Place => "place=NUMBER",
+                Expected::Step => "step=NUMBER",
+                Expected::Lift => "lift=NUMBER",
+                Expected::Sort => "alarm, door=NUMBER or floor=NUMBER",
+                Expected::Door => "door=NUMBER",
+                Expected::Floor => "floor=NUMBER",
+                Expected::End => "the end of the line",
+            },
+        )
     }
 }

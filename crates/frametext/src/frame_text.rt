@@ -17,7 +17,14 @@ ghost use Rattle.std.specs.Vec.{made};
 ghost use Rattle.frametext.specs.Told.{told, tells};
 ghost use Rattle.frametext.specs.Frames.{Held, frameText, routeIn, reqSlotsIn, slotsIn, tokenIn, ackIn, kindIn, frameIn};
 
-fn show_req_slots<P: PayloadText>(from: u32, to: u32, s: u64, n: u64, l: u64, heap: Global) -> Result<String, AllocError>
+fn show_req_slots<P: PayloadText>(
+    from: u32,
+    to: u32,
+    s: u64,
+    n: u64,
+    l: u64,
+    heap: Global,
+) -> Result<String, AllocError>
     ensures { λ r. ⌜ made r (λ t. string-bytes t ≡ frameText spelling (record { sender = from; addressee = to; body = Body.ReqSlots s n l })) ⌝ }
 {
     format!(heap, "{from}>{to} REQSLOTS s={s} n={n} l={l}")
@@ -129,5 +136,9 @@ pub fn parse_frame<P: PayloadText>(text: &str) -> Result<Frame<P>, Fault>
     let (kind, rest) = next_word(rest);
     let (sender, addressee) = parse_route(route)?;
     let body = parse_kind(kind, rest)?;
-    Ok(Frame { sender, addressee, body })
+    Ok(Frame {
+        sender,
+        addressee,
+        body,
+    })
 }

@@ -99,5 +99,9 @@ pub fn signed_field(word: &str, label: &str, expected: Expected) -> Result<i32, 
 pub fn ends(rest: &str) -> Result<(), Fault>
     ensures { λ r. ⌜ told r ≡ endIn (now (rest .entry)) ⌝ }
 {
-    if rest.is_empty() { Ok(()) } else { Err(Fault::NotThere(Expected::End)) }
+    if rest.is_empty() {
+        Ok(())
+    } else {
+        Err(Fault::NotThere(Expected::End))
+    }
 }

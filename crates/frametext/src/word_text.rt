@@ -77,7 +77,11 @@ fn show_word(w: u32, heap: Global) -> Result<String, AllocError>
 pub fn with_word(text: &str, word: &str, heap: Global) -> Result<String, AllocError>
     ensures { λ r. ⌜ made r (λ s. string-bytes s ≡ withWord (now (text .entry)) (now (word .entry))) ⌝ }
 {
-    if text.is_empty() { String::from_str(heap, word) } else { format!(heap, "{text} {word}") }
+    if text.is_empty() {
+        String::from_str(heap, word)
+    } else {
+        format!(heap, "{text} {word}")
+    }
 }
 
 // The text of words, one space apart.

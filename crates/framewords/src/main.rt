@@ -1,5 +1,6 @@
 // Frames to words and words to frames, by commands on standard input.
 mod session;
+
 use session::Session;
 use std::io;
 use std::io::BufRead;

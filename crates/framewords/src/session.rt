@@ -98,7 +98,11 @@ fn answer_read<P: PayloadText>(text: &str, heap: Global) -> Result<String, Unans
 }
 
 // The words of a frame, written into a run first.
-fn show_written<P: PayloadText>(frame: Frame<P>, run: &mut [u32], heap: Global) -> Result<String, AllocError> {
+fn show_written<P: PayloadText>(
+    frame: Frame<P>,
+    run: &mut [u32],
+    heap: Global,
+) -> Result<String, AllocError> {
     match write_frame(frame, run) {
         Ok(count) => show_words(&run[0..count], heap),
         Err(refusal) => show_refusal(refusal, heap),
@@ -106,7 +110,11 @@ fn show_written<P: PayloadText>(frame: Frame<P>, run: &mut [u32], heap: Global) 
 }
 
 // The answer to a text that should be a frame.
-fn answer_write<P: PayloadText>(text: &str, room: usize, heap: Global) -> Result<String, Unanswered> {
+fn answer_write<P: PayloadText>(
+    text: &str,
+    room: usize,
+    heap: Global,
+) -> Result<String, Unanswered> {
     let frame = match parse_frame::<P>(text) {
         Ok(frame) => frame,
         Err(Fault::NoPayload(refusal)) => return Ok(show_refusal(refusal, heap)?),
@@ -135,7 +143,10 @@ pub struct Session {
 impl Session {
     // A session before its first line, with room for every frame.
     pub fn new() -> Session {
-        Session { lines: 0, room: LONGEST }
+        Session {
+            lines: 0,
+            room: LONGEST,
+        }
     }
 
     // The answer to a command.

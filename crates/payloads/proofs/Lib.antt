@@ -1,4 +1,4 @@
-mod Made
+pub mod Made
 mod Signs
 pub mod LineLaws
 pub mod EventLaws

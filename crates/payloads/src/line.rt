@@ -8,7 +8,7 @@ mod methods;
 pub use methods::ProfileLinePayload;
 
 // A step that is added to what the controller holds at a place.
-#[derive(Clone, Copy)]
+#[derive(Clone, Copy, PartialEq, Eq, Debug)]
 pub struct ProfileLine {
     // 0 to 1,023
     place: u32,

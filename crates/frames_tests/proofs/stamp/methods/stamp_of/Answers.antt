@@ -1,7 +1,7 @@
 use mathlib.Core.Path.{sym}
 use native.Mathlib.Omega.{arith}
 use Rattle.std.proofs.shelf.Tests.{le-ltb}
-use Rattle.frames_tests.proofs.Made.{checked-none}
+use Rattle.payloads.proofs.Made.{checked-none}
 use Rattle.frames_tests.proofs.StampLaws.{stampOf-value}
 use Rattle.frames_tests.proofs.stamp.methods.stamp_of.Needs as need
 
