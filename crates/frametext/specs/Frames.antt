@@ -26,6 +26,21 @@ Held f = (f .sender < 2 ^ 32) × (f .addressee < 2 ^ 32) × bodyHeld (f .body)
 abbrev pub firstField : List ℕ → List ℕ → Told ℕ
 firstField label bs = fieldIn 64 label (firstWord bs)
 
+-- The field s, and the field behind it.
+abbrev pub twoIn : List ℕ → List ℕ → Told (ℕ × ℕ)
+twoIn second bs = andTell (firstField (codes "s=") bs) (λ s. andTell (firstField second (otherWords bs)) (λ x. tells (s, x)))
+
+-- The text behind its first two words.
+abbrev pub behindTwo : List ℕ → List ℕ
+behindTwo bs = otherWords (otherWords bs)
+
+-- The field s, the two fields behind it, and nothing more.
+abbrev pub threeIn : List ℕ → List ℕ → List ℕ → Told (ℕ × ℕ × ℕ)
+threeIn second third bs =
+    andTell (twoIn second bs) (λ two.
+    andTell (firstField third (behindTwo bs)) (λ y.
+    andTell (endIn (otherWords (behindTwo bs))) (λ _. tells (two .0, two .1, y))))
+
 -- The sender and the addressee, as `0>1`.
 abbrev pub routeIn : List ℕ → Told (ℕ × ℕ)
 routeIn word =
@@ -46,32 +61,18 @@ module _ {P : Type 0} (spelling : P → List ℕ) where
   frameText f = decimal (f .sender) ++ (codes ">" ++ (decimal (f .addressee) ++ bodyText (f .body)))
 
 module _ {P : Type 0} (spelled : List ℕ → Told P) where
-  -- The fields of each kind of body, and nothing behind them.
+  -- The fields of each kind of body.
   abbrev pub reqSlotsIn : List ℕ → Told (Body P)
-  reqSlotsIn bs =
-      andTell (firstField (codes "s=") bs) (λ s.
-      andTell (firstField (codes "n=") (otherWords bs)) (λ n.
-      andTell (firstField (codes "l=") (otherWords (otherWords bs))) (λ l.
-      andTell (endIn (otherWords (otherWords (otherWords bs)))) (λ _. tells (ReqSlots s n l)))))
+  reqSlotsIn bs = andTell (threeIn (codes "n=") (codes "l=") bs) (λ f. tells (ReqSlots (f .0) (f .1) (f .2)))
 
   abbrev pub slotsIn : List ℕ → Told (Body P)
-  slotsIn bs =
-      andTell (firstField (codes "s=") bs) (λ s.
-      andTell (firstField (codes "r=") (otherWords bs)) (λ r.
-      andTell (firstField (codes "n=") (otherWords (otherWords bs))) (λ n.
-      andTell (endIn (otherWords (otherWords (otherWords bs)))) (λ _. tells (Slots s r n)))))
+  slotsIn bs = andTell (threeIn (codes "r=") (codes "n=") bs) (λ f. tells (Slots (f .0) (f .1) (f .2)))
 
   abbrev pub tokenIn : List ℕ → Told (Body P)
-  tokenIn bs =
-      andTell (firstField (codes "s=") bs) (λ s.
-      andTell (firstField (codes "r=") (otherWords bs)) (λ r.
-      andTell (spelled (otherWords (otherWords bs))) (λ p. tells (Token s r p))))
+  tokenIn bs = andTell (twoIn (codes "r=") bs) (λ f. andTell (spelled (behindTwo bs)) (λ p. tells (Token (f .0) (f .1) p)))
 
   abbrev pub ackIn : List ℕ → Told (Body P)
-  ackIn bs =
-      andTell (firstField (codes "s=") bs) (λ s.
-      andTell (firstField (codes "r=") (otherWords bs)) (λ r.
-      andTell (endIn (otherWords (otherWords bs))) (λ _. tells (Ack s r))))
+  ackIn bs = andTell (twoIn (codes "r=") bs) (λ f. andTell (endIn (behindTwo bs)) (λ _. tells (Ack (f .0) (f .1))))
 
   -- The body of that kind in a text.
   abbrev pub kindIn : List ℕ → List ℕ → Told (Body P)

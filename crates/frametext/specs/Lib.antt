@@ -1,3 +1,4 @@
+pub mod Labels
 pub mod Told
 pub mod Scan
 pub mod Numbers

@@ -2,13 +2,11 @@
 use frames::refusal::Refusal;
 use std::fmt;
 ghost use mathlib.Core.Path.{_≡_};
-ghost use Rattle.frametext.specs.declared.fault.Fault.the-variants.{NoPayload};
+ghost use Rattle.frametext.specs.Labels.{labelText};
 
-// What a text should have had at some place.
+// What stands before a number, as `s=` before 5 in `s=5`.
 #[derive(Clone, Copy)]
-pub enum Expected {
-    Route,
-    Kind,
+pub enum Label {
     S,
     R,
     N,
@@ -16,9 +14,36 @@ pub enum Expected {
     Place,
     Step,
     Lift,
-    Sort,
     Door,
     Floor,
+}
+
+impl Label {
+    // The text of a label.
+    pub(crate) fn text(self) -> &'static str
+        ensures { λ r. ⌜ now r ≡ labelText self ⌝ }
+    {
+        match self {
+            Label::S => "s=",
+            Label::R => "r=",
+            Label::N => "n=",
+            Label::L => "l=",
+            Label::Place => "place=",
+            Label::Step => "step=",
+            Label::Lift => "lift=",
+            Label::Door => "door=",
+            Label::Floor => "floor=",
+        }
+    }
+}
+
+// What a text should have had at some place.
+#[derive(Clone, Copy)]
+pub enum Expected {
+    Route,
+    Kind,
+    Number(Label),
+    Sort,
     End,
 }
 
@@ -31,32 +56,17 @@ pub enum Fault {
     NoPayload(Refusal),
 }
 
-pub impl From<Refusal> for Fault as FaultFromRefusal {
-    ghost converts = { λ x r. r ≡ NoPayload x };
-
-    fn from(refusal: Refusal) -> Fault {
-        Fault::NoPayload(refusal)
-    }
-}
-
 pub impl fmt::Display for Expected as ExpectedDisplay {
     fn fmt<W: fmt::Write>(&self, f: &mut fmt::Formatter<W>) -> fmt::Result {
-        f.write_str(
-            match self {
-                Expected::Route => "SENDER>ADDRESSEE",
-                Expected::Kind => "REQSLOTS, SLOTS, TOKEN or ACK",
-                Expected::S => "s=NUMBER",
-                Expected::R => "r=NUMBER",
-                Expected::N => "n=NUMBER",
-                Expected::L => "l=NUMBER",
-                Expected::Place => "place=NUMBER",
-                Expected::Step => "step=NUMBER",
-                Expected::Lift => "lift=NUMBER",
-                Expected::Sort => "alarm, door=NUMBER or floor=NUMBER",
-                Expected::Door => "door=NUMBER",
-                Expected::Floor => "floor=NUMBER",
-                Expected::End => "the end of the line",
-            },
-        )
+        match self {
+            Expected::Route => f.write_str("SENDER>ADDRESSEE"),
+            Expected::Kind => f.write_str("REQSLOTS, SLOTS, TOKEN or ACK"),
+            Expected::Number(label) => {
+                f.write_str(label.text())?;
+                f.write_str("NUMBER")
+            }
+            Expected::Sort => f.write_str("alarm, door=NUMBER or floor=NUMBER"),
+            Expected::End => f.write_str("the end of the line"),
+        }
     }
 }

@@ -1,6 +1,7 @@
 // Frames as text, as `0>1 REQSLOTS s=0 n=3 l=0`.
 use crate::fault::Expected;
 use crate::fault::Fault;
+use crate::fault::Label;
 use crate::payload_text::PayloadText;
 use crate::scan::cut;
 use crate::scan::ends;
@@ -15,7 +16,8 @@ ghost use mathlib.Core.Path.{_≡_};
 ghost use Rattle.std.specs.Of.String.{string-bytes};
 ghost use Rattle.std.specs.Vec.{made};
 ghost use Rattle.frametext.specs.Told.{told, tells};
-ghost use Rattle.frametext.specs.Frames.{Held, frameText, routeIn, reqSlotsIn, slotsIn, tokenIn, ackIn, kindIn, frameIn};
+ghost use Rattle.frametext.specs.Labels.{labelText};
+ghost use Rattle.frametext.specs.Frames.{twoIn, behindTwo, threeIn, Held, frameText, routeIn, reqSlotsIn, slotsIn, tokenIn, ackIn, kindIn, frameIn};
 
 fn show_req_slots<P: PayloadText>(
     from: u32,
@@ -55,51 +57,64 @@ pub fn show_frame<P: PayloadText>(frame: Frame<P>, heap: Global) -> Result<Strin
     show_words(frame, heap)
 }
 
+// The field s, and the field behind it.
+fn two_fields(text: &str, second: Label) -> Result<(u64, u64), Fault>
+    ensures { λ r. ⌜ told r ≡ twoIn (labelText second) (now (text .entry)) ⌝ }
+{
+    let (first, rest) = next_word(text);
+    let (word, _) = next_word(rest);
+    let s = field(first, Label::S)?;
+    let x = field(word, second)?;
+    Ok((s, x))
+}
+
+// The text behind its first two words.
+fn behind_two(text: &str) -> &str
+    ensures { λ r. ⌜ now r ≡ behindTwo (now (text .entry)) ⌝ }
+{
+    let (_, rest) = next_word(text);
+    let (_, rest) = next_word(rest);
+    rest
+}
+
+// The field s, the two fields behind it, and nothing more.
+fn three_fields(text: &str, second: Label, third: Label) -> Result<(u64, u64, u64), Fault>
+    ensures { λ r. ⌜ told r ≡ threeIn (labelText second) (labelText third) (now (text .entry)) ⌝ }
+{
+    let (s, x) = two_fields(text, second)?;
+    let (word, rest) = next_word(behind_two(text));
+    let y = field(word, third)?;
+    ends(rest)?;
+    Ok((s, x, y))
+}
+
 fn parse_req_slots<P: PayloadText>(text: &str) -> Result<Body<P>, Fault>
     ensures { λ r. ⌜ told r ≡ reqSlotsIn spelled (now (text .entry)) ⌝ }
 {
-    let (first, rest) = next_word(text);
-    let s = field(first, "s=", Expected::S)?;
-    let (second, rest) = next_word(rest);
-    let n = field(second, "n=", Expected::N)?;
-    let (third, rest) = next_word(rest);
-    let l = field(third, "l=", Expected::L)?;
-    ends(rest)?;
+    let (s, n, l) = three_fields(text, Label::N, Label::L)?;
     Ok(Body::ReqSlots { s, n, l })
 }
 
 fn parse_slots<P: PayloadText>(text: &str) -> Result<Body<P>, Fault>
     ensures { λ r. ⌜ told r ≡ slotsIn spelled (now (text .entry)) ⌝ }
 {
-    let (first, rest) = next_word(text);
-    let s = field(first, "s=", Expected::S)?;
-    let (second, rest) = next_word(rest);
-    let r = field(second, "r=", Expected::R)?;
-    let (third, rest) = next_word(rest);
-    let n = field(third, "n=", Expected::N)?;
-    ends(rest)?;
+    let (s, r, n) = three_fields(text, Label::R, Label::N)?;
     Ok(Body::Slots { s, r, n })
 }
 
 fn parse_token<P: PayloadText>(text: &str) -> Result<Body<P>, Fault>
     ensures { λ r. ⌜ told r ≡ tokenIn spelled (now (text .entry)) ⌝ }
 {
-    let (first, rest) = next_word(text);
-    let s = field(first, "s=", Expected::S)?;
-    let (second, rest) = next_word(rest);
-    let r = field(second, "r=", Expected::R)?;
-    let payload = P::parse(rest)?;
+    let (s, r) = two_fields(text, Label::R)?;
+    let payload = P::parse(behind_two(text))?;
     Ok(Body::Token { s, r, payload })
 }
 
 fn parse_ack<P: PayloadText>(text: &str) -> Result<Body<P>, Fault>
     ensures { λ r. ⌜ told r ≡ ackIn spelled (now (text .entry)) ⌝ }
 {
-    let (first, rest) = next_word(text);
-    let s = field(first, "s=", Expected::S)?;
-    let (second, rest) = next_word(rest);
-    let r = field(second, "r=", Expected::R)?;
-    ends(rest)?;
+    let (s, r) = two_fields(text, Label::R)?;
+    ends(behind_two(text))?;
     Ok(Body::Ack { s, r })
 }
 

@@ -1,11 +1,12 @@
 // Payloads as text.
 use crate::fault::Expected;
 use crate::fault::Fault;
-use crate::fault::FaultFromRefusal;
+use crate::fault::Label;
 use crate::scan::next_word;
 use crate::scan::short_field;
 use crate::scan::short_number;
 use crate::scan::signed_field;
+use crate::scan::signed_number;
 use crate::scan::strip;
 use frames::payload::Payload;
 use payloads::event::LiftEvent;
@@ -21,7 +22,9 @@ ghost use Prim.Native.Nat.{ℕ};
 ghost use Rattle.std.specs.Of.String.{string-bytes};
 ghost use Rattle.std.specs.Vec.{made};
 ghost use Rattle.payloads.specs.declared.sort.Sort.the-variants.{AlarmPressed};
-ghost use Rattle.frametext.specs.Told.{Told, told, tells};
+ghost use Rattle.payloads.specs.Events.{eventOf};
+ghost use Rattle.payloads.specs.Lines.{lineOf};
+ghost use Rattle.frametext.specs.Told.{Told, told, tells, orNoPayload};
 ghost use Rattle.frametext.specs.Payloads.{partsText, lineText, lineIn, sortIn, happeningText, eventText, eventIn};
 
 // A kind of payload that has a text form.
@@ -50,6 +53,16 @@ fn show_parts(place: u32, step: i32, heap: Global) -> Result<String, AllocError>
     format!(heap, "place={place} step={step}")
 }
 
+// The line with these parts.
+fn line_with(place: u32, step: i32) -> Result<ProfileLine, Fault>
+    ensures { λ r. ⌜ told r ≡ orNoPayload (lineOf place step) ⌝ }
+{
+    match ProfileLine::new(place, step) {
+        Ok(line) => Ok(line),
+        Err(refusal) => Err(Fault::NoPayload(refusal)),
+    }
+}
+
 // As `place=5 step=-2`.
 pub impl PayloadText for ProfileLine as ProfileLineText {
     ghost spelling = { lineText };
@@ -62,9 +75,9 @@ pub impl PayloadText for ProfileLine as ProfileLineText {
 
     fn parse(text: &str) -> Result<ProfileLine, Fault> {
         let (place, step) = next_word(text);
-        let place = short_field(place, "place=", Expected::Place)?;
-        let step = signed_field(step, "step=", Expected::Step)?;
-        Ok(ProfileLine::new(place, step)?)
+        let place = short_field(place, Label::Place)?;
+        let step = signed_field(step, Label::Step)?;
+        line_with(place, step)
     }
 }
 
@@ -91,12 +104,25 @@ fn parse_sort(text: &str) -> Result<Sort, Fault>
     if text == "alarm" {
         return Ok(Sort::AlarmPressed);
     }
-    if let Some(code) = strip(text, "door=") {
-        let code = short_number(code, Expected::Door)?;
+    if let Some(code) = strip(text, Label::Door.text()) {
+        let code = short_number(code, Expected::Number(Label::Door))?;
         return Ok(Sort::DoorFault { code });
     }
-    let floor = signed_field(text, "floor=", Expected::Sort)?;
+    let Some(floor) = strip(text, Label::Floor.text()) else {
+        return Err(Fault::NotThere(Expected::Sort));
+    };
+    let floor = signed_number(floor, Expected::Number(Label::Floor))?;
     Ok(Sort::Stopped { floor })
+}
+
+// The event with these parts.
+fn event_with(lift: u32, sort: Sort) -> Result<LiftEvent, Fault>
+    ensures { λ r. ⌜ told r ≡ orNoPayload (eventOf lift sort) ⌝ }
+{
+    match LiftEvent::new(lift, sort) {
+        Ok(event) => Ok(event),
+        Err(refusal) => Err(Fault::NoPayload(refusal)),
+    }
 }
 
 // As `lift=12 alarm`, `lift=12 door=7` or `lift=12 floor=-3`.
@@ -111,8 +137,8 @@ pub impl PayloadText for LiftEvent as LiftEventText {
 
     fn parse(text: &str) -> Result<LiftEvent, Fault> {
         let (lift, sort) = next_word(text);
-        let lift = short_field(lift, "lift=", Expected::Lift)?;
+        let lift = short_field(lift, Label::Lift)?;
         let sort = parse_sort(sort)?;
-        Ok(LiftEvent::new(lift, sort)?)
+        event_with(lift, sort)
     }
 }

@@ -1,11 +1,13 @@
 // A text taken apart, piece by piece.
 use crate::fault::Expected;
 use crate::fault::Fault;
+use crate::fault::Label;
 ghost use mathlib.Core.Path.{_≡_};
 ghost use Prim.Native.Nat.{_<_};
 ghost use denote.Ref.{now as held};
 ghost use Rattle.std.specs.Options.{mapped};
 ghost use Rattle.frametext.specs.Told.{told, orUnread, endIn};
+ghost use Rattle.frametext.specs.Labels.{labelText};
 ghost use Rattle.frametext.specs.Scan.{Cut, firstWord, otherWords, stripped};
 ghost use Rattle.frametext.specs.Numbers.{numberIn, signedIn, fieldIn, signedFieldIn};
 
@@ -66,32 +68,32 @@ pub fn strip<'a>(word: &'a str, label: &str) -> Option<&'a str>
 }
 
 // The number behind a label, as 5 in `s=5`.
-pub fn field(word: &str, label: &str, expected: Expected) -> Result<u64, Fault>
-    ensures { λ r. ⌜ told r ≡ fieldIn 64 (now (label .entry)) (now (word .entry)) ⌝ }
+pub fn field(word: &str, label: Label) -> Result<u64, Fault>
+    ensures { λ r. ⌜ told r ≡ fieldIn 64 (labelText label) (now (word .entry)) ⌝ }
 {
-    match strip(word, label) {
-        Some(digits) => number(digits, expected),
-        None => Err(Fault::NotThere(expected)),
+    match strip(word, label.text()) {
+        Some(digits) => number(digits, Expected::Number(label)),
+        None => Err(Fault::NotThere(Expected::Number(label))),
     }
 }
 
 // The number of 32 bits behind a label.
-pub fn short_field(word: &str, label: &str, expected: Expected) -> Result<u32, Fault>
-    ensures { λ r. ⌜ told r ≡ fieldIn 32 (now (label .entry)) (now (word .entry)) ⌝ }
+pub fn short_field(word: &str, label: Label) -> Result<u32, Fault>
+    ensures { λ r. ⌜ told r ≡ fieldIn 32 (labelText label) (now (word .entry)) ⌝ }
 {
-    match strip(word, label) {
-        Some(digits) => short_number(digits, expected),
-        None => Err(Fault::NotThere(expected)),
+    match strip(word, label.text()) {
+        Some(digits) => short_number(digits, Expected::Number(label)),
+        None => Err(Fault::NotThere(Expected::Number(label))),
     }
 }
 
 // The signed number behind a label, as -2 in `step=-2`.
-pub fn signed_field(word: &str, label: &str, expected: Expected) -> Result<i32, Fault>
-    ensures { λ r. ⌜ told r ≡ signedFieldIn (now (label .entry)) (now (word .entry)) ⌝ }
+pub fn signed_field(word: &str, label: Label) -> Result<i32, Fault>
+    ensures { λ r. ⌜ told r ≡ signedFieldIn (labelText label) (now (word .entry)) ⌝ }
 {
-    match strip(word, label) {
-        Some(digits) => signed_number(digits, expected),
-        None => Err(Fault::NotThere(expected)),
+    match strip(word, label.text()) {
+        Some(digits) => signed_number(digits, Expected::Number(label)),
+        None => Err(Fault::NotThere(Expected::Number(label))),
     }
 }
 

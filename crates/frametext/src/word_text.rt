@@ -74,7 +74,7 @@ fn show_word(w: u32, heap: Global) -> Result<String, AllocError>
 }
 
 // A text with one more word, a space before it unless it is the first.
-pub fn with_word(text: &str, word: &str, heap: Global) -> Result<String, AllocError>
+fn with_word(text: &str, word: &str, heap: Global) -> Result<String, AllocError>
     ensures { λ r. ⌜ made r (λ s. string-bytes s ≡ withWord (now (text .entry)) (now (word .entry))) ⌝ }
 {
     if text.is_empty() {

@@ -15,7 +15,6 @@ use frametext::payload_text::PayloadText;
 use frametext::payload_text::ProfileLineText;
 use frametext::word_text::parse_word;
 use frametext::word_text::show_words;
-use frametext::word_text::with_word;
 use payloads::event::LiftEvent;
 use payloads::line::ProfileLine;
 use std::alloc::AllocError;
@@ -128,7 +127,10 @@ fn answer_write<P: PayloadText>(
 fn squeezed(text: &str, heap: Global) -> Result<String, AllocError> {
     let mut out = String::new(heap);
     for word in text.split_whitespace() {
-        out = with_word(out.as_str(), word, heap)?;
+        if !out.is_empty() {
+            out.push_str(" ")?;
+        }
+        out.push_str(word)?;
     }
     Ok(out)
 }
