@@ -33,7 +33,7 @@ fn read_field(w: u32, field: Field) -> Result<u64, Refusal>
 }
 
 // How many words follow the head of that kind of frame.
-pub fn count_after<P: Payload>(kind: Kind) -> usize
+pub(crate) fn count_after<P: Payload>(kind: Kind) -> usize
     ensures { λ r. ⌜ r ≡ countAfter size kind ⌝ }
 {
     match kind {

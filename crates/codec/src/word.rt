@@ -42,7 +42,7 @@ fn field_code(field: Field) -> u32
 }
 
 // The word of a field.
-pub fn field_word(field: Field, value: u64) -> u32
+pub(crate) fn field_word(field: Field, value: u64) -> u32
     requires { ⌜ value < 2 ^ 28 ⌝ }
     ensures { λ r. ⌜ r ≡ word (fieldCode field) value ⌝ }
 {
@@ -50,7 +50,7 @@ pub fn field_word(field: Field, value: u64) -> u32
 }
 
 // The head of a frame of that kind, with `count` words to follow.
-pub fn head_word(kind: Kind, sender: u32, addressee: u32, count: usize) -> u32
+pub(crate) fn head_word(kind: Kind, sender: u32, addressee: u32, count: usize) -> u32
     requires { ⌜ sender < 256 ⌝ ∗ ⌜ addressee < 256 ⌝ ∗ ⌜ count < 4096 ⌝ }
     ensures { λ r. ⌜ r ≡ headWord (kindCode kind) sender addressee count ⌝ }
 {
@@ -60,21 +60,21 @@ pub fn head_word(kind: Kind, sender: u32, addressee: u32, count: usize) -> u32
 }
 
 // The value of a word.
-pub fn value_of(w: u32) -> u32
+pub(crate) fn value_of(w: u32) -> u32
     ensures { λ r. ⌜ r ≡ wordValue w ⌝ }
 {
     part(w, 0, 28)
 }
 
 // Whether a word is of that kind of field.
-pub fn is_field(w: u32, field: Field) -> bool
+pub(crate) fn is_field(w: u32, field: Field) -> bool
     ensures { λ r. ⌜ r ≡ eqb (wordKind w) (fieldCode field) ⌝ }
 {
     w >> 28 == field_code(field)
 }
 
 // The kind of frame that a head begins.
-pub fn head_kind(head: u32) -> Option<Kind>
+pub(crate) fn head_kind(head: u32) -> Option<Kind>
     ensures { λ r. ⌜ r ≡ kindAt (wordKind head) ⌝ }
 {
     match head >> 28 {
@@ -87,21 +87,21 @@ pub fn head_kind(head: u32) -> Option<Kind>
 }
 
 // The sender that a head names.
-pub fn head_sender(head: u32) -> u32
+pub(crate) fn head_sender(head: u32) -> u32
     ensures { λ r. ⌜ r ≡ headSender head ⌝ }
 {
     part(head, 20, 8)
 }
 
 // The addressee that a head names.
-pub fn head_addressee(head: u32) -> u32
+pub(crate) fn head_addressee(head: u32) -> u32
     ensures { λ r. ⌜ r ≡ headAddressee head ⌝ }
 {
     part(head, 12, 8)
 }
 
 // The count of words that a head says will follow.
-pub fn head_count(head: u32) -> usize
+pub(crate) fn head_count(head: u32) -> usize
     ensures { λ r. ⌜ r ≡ headCount head ⌝ }
 {
     part(head, 0, 12) as usize

@@ -5,7 +5,9 @@ use Rattle.std.specs.declared.option.Option.the-variants.{Some, None}
 use Rattle.std.specs.declared.result.Result.{Result}
 use Rattle.std.specs.declared.result.Result.the-variants.{Ok, Err}
 use Rattle.frames.specs.declared.refusal.Refusal.{Refusal}
-use Rattle.frames.specs.declared.refusal.Refusal.the-variants.{OwnNumber, AheadCount, CellCount, Peer, Addressee, PastLastClock, RequestWindow, SlotsWindow, SlotsClock, ClockSpent, WindowFull, EmptyRun, HeadKind, HeadCount, ShortRun, WordKind, PayloadWords, TooLarge, NoRoom, PartRange}
+use Rattle.frames.specs.declared.refusal.Refusal.the-variants.{OwnNumber, AheadCount, CellCount, Peer, Addressee, PastLastClock, RequestWindow}
+use Rattle.frames.specs.declared.refusal.Refusal.the-variants.{SlotsWindow, SlotsClock, ClockSpent, WindowFull, EmptyRun, HeadKind, HeadCount}
+use Rattle.frames.specs.declared.refusal.Refusal.the-variants.{ShortRun, WordKind, PayloadWords, TooLarge, NoRoom, PartRange}
 
 -- The number of each refusal.
 abbrev pub numberOf : Refusal → ℕ

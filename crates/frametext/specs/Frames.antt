@@ -48,17 +48,25 @@ routeIn word =
     andTell (orUnread (numberIn 10 32 (before 62 word))) (λ sender.
     andTell (orUnread (numberIn 10 32 to)) (λ addressee. tells (sender, addressee))))
 
+-- A text behind the two nodes of a frame.
+abbrev pub routed : ℕ → ℕ → List ℕ → List ℕ
+routed sender addressee bs = decimal sender ++ (codes ">" ++ (decimal addressee ++ bs))
+
+-- The text of a request of slots, behind a space.
+abbrev pub reqSlotsText : ℕ → ℕ → ℕ → List ℕ
+reqSlotsText s n l = codes " REQSLOTS s=" ++ (decimal s ++ (codes " n=" ++ (decimal n ++ (codes " l=" ++ decimal l))))
+
 module _ {P : Type 0} (spelling : P → List ℕ) where
   -- The text of a body, behind a space.
   abbrev pub bodyText : Body P → List ℕ
-  bodyText (ReqSlots s n l) = codes " REQSLOTS s=" ++ (decimal s ++ (codes " n=" ++ (decimal n ++ (codes " l=" ++ decimal l))))
+  bodyText (ReqSlots s n l) = reqSlotsText s n l
   bodyText (Slots s r n) = codes " SLOTS s=" ++ (decimal s ++ (codes " r=" ++ (decimal r ++ (codes " n=" ++ decimal n))))
   bodyText (Token s r p) = codes " TOKEN s=" ++ (decimal s ++ (codes " r=" ++ (decimal r ++ (codes " " ++ spelling p))))
   bodyText (Ack s r) = codes " ACK s=" ++ (decimal s ++ (codes " r=" ++ decimal r))
 
   -- The text of a frame, where `spelling` gives that of a payload.
   abbrev pub frameText : Frame P → List ℕ
-  frameText f = decimal (f .sender) ++ (codes ">" ++ (decimal (f .addressee) ++ bodyText (f .body)))
+  frameText f = routed (f .sender) (f .addressee) (bodyText (f .body))
 
 module _ {P : Type 0} (spelled : List ℕ → Told P) where
   -- The fields of each kind of body.

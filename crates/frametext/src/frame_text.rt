@@ -17,9 +17,9 @@ ghost use Rattle.std.specs.Of.String.{string-bytes};
 ghost use Rattle.std.specs.Vec.{made};
 ghost use Rattle.frametext.specs.Told.{told, tells};
 ghost use Rattle.frametext.specs.Labels.{labelText};
-ghost use Rattle.frametext.specs.Frames.{twoIn, behindTwo, threeIn, Held, frameText, routeIn, reqSlotsIn, slotsIn, tokenIn, ackIn, kindIn, frameIn};
+ghost use Rattle.frametext.specs.Frames.{routed, reqSlotsText, twoIn, behindTwo, threeIn, Held, frameText, routeIn, reqSlotsIn, slotsIn, tokenIn, ackIn, kindIn, frameIn};
 
-fn show_req_slots<P: PayloadText>(
+fn show_req_slots(
     from: u32,
     to: u32,
     s: u64,
@@ -27,7 +27,7 @@ fn show_req_slots<P: PayloadText>(
     l: u64,
     heap: Global,
 ) -> Result<String, AllocError>
-    ensures { λ r. ⌜ made r (λ t. string-bytes t ≡ frameText spelling (record { sender = from; addressee = to; body = Body.ReqSlots s n l })) ⌝ }
+    ensures { λ r. ⌜ made r (λ t. string-bytes t ≡ routed from to (reqSlotsText s n l)) ⌝ }
 {
     format!(heap, "{from}>{to} REQSLOTS s={s} n={n} l={l}")
 }
@@ -38,7 +38,7 @@ fn show_words<P: PayloadText>(frame: Frame<P>, heap: Global) -> Result<String, A
     let from = frame.sender;
     let to = frame.addressee;
     match frame.body {
-        Body::ReqSlots { s, n, l } => show_req_slots::<P>(from, to, s, n, l, heap),
+        Body::ReqSlots { s, n, l } => show_req_slots(from, to, s, n, l, heap),
         Body::Slots { s, r, n } => format!(heap, "{from}>{to} SLOTS s={s} r={r} n={n}"),
         Body::Token { s, r, payload } => {
             let payload = payload.show(heap)?;

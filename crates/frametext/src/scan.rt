@@ -12,7 +12,7 @@ ghost use Rattle.frametext.specs.Scan.{Cut, firstWord, otherWords, stripped};
 ghost use Rattle.frametext.specs.Numbers.{numberIn, signedIn, fieldIn, signedFieldIn};
 
 // The texts before and behind the first `at`, an ASCII character, if it comes.
-pub fn cut<'a>(text: &'a str, at: char) -> Option<(&'a str, &'a str)>
+pub(crate) fn cut<'a>(text: &'a str, at: char) -> Option<(&'a str, &'a str)>
     requires { ⌜ at < 128 ⌝ }
     ensures { λ r. ⌜ Cut at (now (text .entry)) r ⌝ }
 {
@@ -31,7 +31,7 @@ pub fn next_word(text: &str) -> (&str, &str)
 }
 
 // The number that a text is.
-pub fn number(text: &str, expected: Expected) -> Result<u64, Fault>
+pub(crate) fn number(text: &str, expected: Expected) -> Result<u64, Fault>
     ensures { λ r. ⌜ told r ≡ orUnread (numberIn 10 64 (now (text .entry))) ⌝ }
 {
     match text.parse::<u64>() {
@@ -41,7 +41,7 @@ pub fn number(text: &str, expected: Expected) -> Result<u64, Fault>
 }
 
 // The number of 32 bits that a text is.
-pub fn short_number(text: &str, expected: Expected) -> Result<u32, Fault>
+pub(crate) fn short_number(text: &str, expected: Expected) -> Result<u32, Fault>
     ensures { λ r. ⌜ told r ≡ orUnread (numberIn 10 32 (now (text .entry))) ⌝ }
 {
     match text.parse::<u32>() {
@@ -51,7 +51,7 @@ pub fn short_number(text: &str, expected: Expected) -> Result<u32, Fault>
 }
 
 // The signed number that a text is.
-pub fn signed_number(text: &str, expected: Expected) -> Result<i32, Fault>
+pub(crate) fn signed_number(text: &str, expected: Expected) -> Result<i32, Fault>
     ensures { λ r. ⌜ told r ≡ orUnread (signedIn (now (text .entry))) ⌝ }
 {
     match text.parse::<i32>() {
@@ -61,14 +61,14 @@ pub fn signed_number(text: &str, expected: Expected) -> Result<i32, Fault>
 }
 
 // The text behind a label that it begins with.
-pub fn strip<'a>(word: &'a str, label: &str) -> Option<&'a str>
+pub(crate) fn strip<'a>(word: &'a str, label: &str) -> Option<&'a str>
     ensures { λ r. ⌜ mapped held r ≡ stripped (now (label .entry)) (now (word .entry)) ⌝ }
 {
     word.strip_prefix(label)
 }
 
 // The number behind a label, as 5 in `s=5`.
-pub fn field(word: &str, label: Label) -> Result<u64, Fault>
+pub(crate) fn field(word: &str, label: Label) -> Result<u64, Fault>
     ensures { λ r. ⌜ told r ≡ fieldIn 64 (labelText label) (now (word .entry)) ⌝ }
 {
     match strip(word, label.text()) {
@@ -78,7 +78,7 @@ pub fn field(word: &str, label: Label) -> Result<u64, Fault>
 }
 
 // The number of 32 bits behind a label.
-pub fn short_field(word: &str, label: Label) -> Result<u32, Fault>
+pub(crate) fn short_field(word: &str, label: Label) -> Result<u32, Fault>
     ensures { λ r. ⌜ told r ≡ fieldIn 32 (labelText label) (now (word .entry)) ⌝ }
 {
     match strip(word, label.text()) {
@@ -88,7 +88,7 @@ pub fn short_field(word: &str, label: Label) -> Result<u32, Fault>
 }
 
 // The signed number behind a label, as -2 in `step=-2`.
-pub fn signed_field(word: &str, label: Label) -> Result<i32, Fault>
+pub(crate) fn signed_field(word: &str, label: Label) -> Result<i32, Fault>
     ensures { λ r. ⌜ told r ≡ signedFieldIn (labelText label) (now (word .entry)) ⌝ }
 {
     match strip(word, label.text()) {
@@ -98,7 +98,7 @@ pub fn signed_field(word: &str, label: Label) -> Result<i32, Fault>
 }
 
 // Nothing more may follow.
-pub fn ends(rest: &str) -> Result<(), Fault>
+pub(crate) fn ends(rest: &str) -> Result<(), Fault>
     ensures { λ r. ⌜ told r ≡ endIn (now (rest .entry)) ⌝ }
 {
     if rest.is_empty() {

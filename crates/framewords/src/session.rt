@@ -169,6 +169,7 @@ impl Session {
                 if !rest.is_empty() {
                     return Err(Unanswered::Unclear(Wanted::Part(Expected::End)));
                 }
+                let room = room.min(LONGEST);
                 self.room = room;
                 Ok(format!(heap, "room for {room} words")?)
             }
