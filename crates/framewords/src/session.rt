@@ -28,6 +28,7 @@ const LONGEST: usize = 7;
 // What a command should have had.
 #[derive(Clone, Copy)]
 enum Wanted {
+    Text,
     Command,
     PayloadKind,
     Words,
@@ -38,6 +39,7 @@ enum Wanted {
 impl fmt::Display for Wanted as WantedDisplay {
     fn fmt<W: fmt::Write>(&self, f: &mut fmt::Formatter<W>) -> fmt::Result {
         match self {
+            Wanted::Text => f.write_str("text in UTF-8"),
             Wanted::Command => f.write_str("read, write or room"),
             Wanted::PayloadKind => f.write_str("line or event"),
             Wanted::Words => f.write_str("words of at most 8 hexadecimal digits"),
@@ -177,6 +179,18 @@ impl Session {
         }
     }
 
+    // The message that something else was expected on the last line.
+    fn unclear(&self, wanted: Wanted, heap: Global) -> Result<Option<String>, AllocError> {
+        let number = self.lines;
+        Ok(Some(format!(heap, "line {number}: expected {wanted}")?))
+    }
+
+    // The answer to a line that is no text.
+    pub fn answer_no_text(&mut self, heap: Global) -> Result<Option<String>, AllocError> {
+        self.lines = self.lines.saturating_add(1);
+        self.unclear(Wanted::Text, heap)
+    }
+
     // The answer to one line of input; none to a blank line or a comment.
     pub fn answer(&mut self, line: &str, heap: Global) -> Result<Option<String>, AllocError> {
         self.lines = self.lines.saturating_add(1);
@@ -188,10 +202,7 @@ impl Session {
         match self.answer_command(text, heap) {
             Ok(told) => Ok(Some(told)),
             Err(Unanswered::Memory) => Err(AllocError),
-            Err(Unanswered::Unclear(wanted)) => {
-                let number = self.lines;
-                Ok(Some(format!(heap, "line {number}: expected {wanted}")?))
-            }
+            Err(Unanswered::Unclear(wanted)) => self.unclear(wanted, heap),
         }
     }
 }
