@@ -17,8 +17,10 @@ ghost use Rattle.std.specs.Of.String.{string-bytes};
 ghost use Rattle.std.specs.Vec.{made};
 ghost use Rattle.frametext.specs.Told.{told, tells};
 ghost use Rattle.frametext.specs.Labels.{labelText};
-ghost use Rattle.frametext.specs.Frames.{routed, reqSlotsText, twoIn, behindTwo, threeIn, Held, frameText, routeIn, reqSlotsIn, slotsIn, tokenIn, ackIn, kindIn, frameIn};
+ghost use Rattle.frametext.specs.Frames.{Held, routed, reqSlotsText, frameText};
+ghost use Rattle.frametext.specs.Frames.{twoIn, behindTwo, threeIn, routeIn, reqSlotsIn, slotsIn, tokenIn, ackIn, kindIn, frameIn};
 
+// The text of a request of slots.
 fn show_req_slots(
     from: u32,
     to: u32,
@@ -32,7 +34,8 @@ fn show_req_slots(
     format!(heap, "{from}>{to} REQSLOTS s={s} n={n} l={l}")
 }
 
-fn show_words<P: PayloadText>(frame: Frame<P>, heap: Global) -> Result<String, AllocError>
+// The text of a frame, by its kind.
+fn spell<P: PayloadText>(frame: Frame<P>, heap: Global) -> Result<String, AllocError>
     ensures { λ r. ⌜ made r (λ s. string-bytes s ≡ frameText spelling frame) ⌝ }
 {
     let from = frame.sender;
@@ -49,12 +52,12 @@ fn show_words<P: PayloadText>(frame: Frame<P>, heap: Global) -> Result<String, A
     }
 }
 
-// The text of a frame, which reads back as that frame.
+// The text of a frame, which reads back as that frame, whatever numbers its types hold.
 pub fn show_frame<P: PayloadText>(frame: Frame<P>, heap: Global) -> Result<String, AllocError>
     ensures text { λ r. ⌜ made r (λ s. string-bytes s ≡ frameText spelling frame) ⌝ }
     ensures reads_back { λ _. ⌜ (Held frame → frameIn spelled (frameText spelling frame) ≡ tells frame) ⌝ }
 {
-    show_words(frame, heap)
+    spell(frame, heap)
 }
 
 // The field s, and the field behind it.

@@ -47,6 +47,7 @@ pub trait PayloadText: Payload {
         ensures { λ r. ⌜ told r ≡ spelled (now (text .entry)) ⌝ };
 }
 
+// The text of a line with these parts.
 fn show_parts(place: u32, step: i32, heap: Global) -> Result<String, AllocError>
     ensures { λ r. ⌜ made r (λ s. string-bytes s ≡ partsText place step) ⌝ }
 {
@@ -81,12 +82,14 @@ pub impl PayloadText for ProfileLine as ProfileLineText {
     }
 }
 
+// The text of an alarm at a lift.
 fn show_alarm(lift: u32, heap: Global) -> Result<String, AllocError>
     ensures { λ r. ⌜ made r (λ s. string-bytes s ≡ happeningText lift AlarmPressed) ⌝ }
 {
     format!(heap, "lift={lift} alarm")
 }
 
+// The text of what happened at a lift.
 fn show_happening(lift: u32, sort: Sort, heap: Global) -> Result<String, AllocError>
     ensures { λ r. ⌜ made r (λ s. string-bytes s ≡ happeningText lift sort) ⌝ }
 {

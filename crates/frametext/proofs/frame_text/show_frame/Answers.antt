@@ -5,6 +5,6 @@ pub returns : need.returns
 returns g c =
     let p = g .P·PayloadText in
     record {
-      text = c .show-words .ensures;
+      text = c .spell .ensures;
       reads-back = frame-respelled (p .spelling) (p .spelled) (g .P·PayloadText·met .respelled) (c .args .frame);
     }

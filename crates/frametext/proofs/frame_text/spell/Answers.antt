@@ -1,7 +1,7 @@
 use mathlib.Core.Path.{sym, ap, _∙_}
 use Rattle.std.proofs.shelf.Results.{made-weaker}
 use Rattle.frametext.specs.Frames.{routed, bodyText}
-use Rattle.frametext.proofs.frame_text.show_words.Needs as need
+use Rattle.frametext.proofs.frame_text.spell.Needs as need
 
 pub returns-in-ReqSlots : need.returns-in-ReqSlots
 returns-in-ReqSlots g c =
