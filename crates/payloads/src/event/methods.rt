@@ -15,6 +15,11 @@ ghost use Rattle.frames.specs.Answers.{answer, orRefuse};
 ghost use Rattle.payloads.specs.Ranges.{sortFits, eventFits};
 ghost use Rattle.payloads.specs.Events.{eventOf, sortCode, sortDetail, sortOf, eventBy, eventWords, eventReads};
 
+// The numbers of the sorts.
+const ALARM_PRESSED: u32 = 1;
+const DOOR_FAULT: u32 = 2;
+const STOPPED: u32 = 3;
+
 // Whether what a sort says is in range.
 fn sort_fits(sort: Sort) -> bool
     ensures { λ r. ⌜ r ≡ sortFits sort ⌝ }
@@ -50,9 +55,9 @@ fn sort_code(sort: Sort) -> u32
     ensures small { λ r. ⌜ r < 4 ⌝ }
 {
     match sort {
-        Sort::AlarmPressed => 1,
-        Sort::DoorFault { .. } => 2,
-        Sort::Stopped { .. } => 3,
+        Sort::AlarmPressed => ALARM_PRESSED,
+        Sort::DoorFault { .. } => DOOR_FAULT,
+        Sort::Stopped { .. } => STOPPED,
     }
 }
 
@@ -74,9 +79,9 @@ fn sort_of(code: u32, detail: u32) -> Option<Sort>
     ensures { λ r. ⌜ r ≡ sortOf code detail ⌝ }
 {
     match code {
-        1 if detail == 0 => Some(Sort::AlarmPressed),
-        2 => Some(Sort::DoorFault { code: detail }),
-        3 => Some(Sort::Stopped {
+        ALARM_PRESSED if detail == 0 => Some(Sort::AlarmPressed),
+        DOOR_FAULT => Some(Sort::DoorFault { code: detail }),
+        STOPPED => Some(Sort::Stopped {
             floor: lower(detail, 64),
         }),
         _ => None,
