@@ -17,7 +17,9 @@ ghost use Rattle.payloads.specs.Events.{eventOf, sortCode, sortDetail, sortOf,
 
 // The numbers of the sorts.
 const ALARM_PRESSED: u32 = 1;
+
 const DOOR_FAULT: u32 = 2;
+
 const STOPPED: u32 = 3;
 
 // Whether what a sort says is in range.
