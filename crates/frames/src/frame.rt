@@ -1,6 +1,6 @@
 // What goes over a channel.
 
-// The last clock, 2^28 - 1: no clock and no field of a frame is above it.
+// The last clock, 2^28 - 1, which is also the largest field that a word can hold.
 pub const LAST_CLOCK: u64 = 0x0fff_ffff;
 
 // The four kinds of body, with the numbers s, n and l and the receiver clock r as the protocol names them.
