@@ -1,4 +1,6 @@
 // Channels: the lists of frames that wait between nodes, four kinds of them, and piles of these.
+#![tactic(auto)]
+
 pub mod channel;
 pub mod holding;
 pub mod line;

@@ -6,7 +6,7 @@ use crate::channel::Channel;
 
 // Puts each frame of a slice, in order.
 pub fn put_all<F: Copy, C: Channel<F>>(channel: &mut C, frames: &[F])
-    ensures { FoldsTo puts channel.old frames.now channel.new }
+    ensures { FoldsTo C.puts channel.old frames.now channel.new }
 {
     for frame in frames {
         channel.put(*frame);
@@ -26,7 +26,7 @@ pub fn put_first<F: Copy, C: Channel<F>, const N: usize>(
     frames: &[F; N],
     count: usize,
 )
-    ensures { FoldsTo puts channel.old (take count frames.now) channel.new }
+    ensures { FoldsTo C.puts channel.old (take count frames.now) channel.new }
 {
     put_all(channel, first(&frames[..], count));
 }

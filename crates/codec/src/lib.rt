@@ -1,4 +1,6 @@
 // Frames to words, and words to frames, for every kind of payload.
+#![tactic(auto)]
+
 mod bits;
 mod reader;
 mod word;

@@ -26,7 +26,7 @@ fn read_field(w: u32, field: Field) -> Result<u64, Refusal>
 
 // How many words follow the head of that kind of frame.
 pub(crate) fn count_after<P: Payload>(kind: Kind) -> usize
-    ensures { result ≡ count_after size kind }
+    ensures { result ≡ count_after P.size kind }
 {
     match kind {
         Kind::ReqSlots => 3,
@@ -38,7 +38,7 @@ pub(crate) fn count_after<P: Payload>(kind: Kind) -> usize
 
 fn read_req_slots<P: Payload>(ws: &[u32]) -> Result<Body<P>, Refusal>
     requires { 3 ≤ length ws.now }
-    ensures { answer result ≡ body_of size reads kinds.ReqSlots ws.now }
+    ensures { answer result ≡ body_of P.size P.reads kinds.ReqSlots ws.now }
 {
     let s = read_field(ws[0], Field::Number)?;
     let n = read_field(ws[1], Field::Count)?;
@@ -48,7 +48,7 @@ fn read_req_slots<P: Payload>(ws: &[u32]) -> Result<Body<P>, Refusal>
 
 fn read_slots<P: Payload>(ws: &[u32]) -> Result<Body<P>, Refusal>
     requires { 3 ≤ length ws.now }
-    ensures { answer result ≡ body_of size reads kinds.Slots ws.now }
+    ensures { answer result ≡ body_of P.size P.reads kinds.Slots ws.now }
 {
     let s = read_field(ws[0], Field::Number)?;
     let r = read_field(ws[1], Field::Clock)?;
@@ -58,7 +58,7 @@ fn read_slots<P: Payload>(ws: &[u32]) -> Result<Body<P>, Refusal>
 
 fn read_ack<P: Payload>(ws: &[u32]) -> Result<Body<P>, Refusal>
     requires { 2 ≤ length ws.now }
-    ensures { answer result ≡ body_of size reads kinds.Ack ws.now }
+    ensures { answer result ≡ body_of P.size P.reads kinds.Ack ws.now }
 {
     let s = read_field(ws[0], Field::Number)?;
     let r = read_field(ws[1], Field::Clock)?;
@@ -67,8 +67,8 @@ fn read_ack<P: Payload>(ws: &[u32]) -> Result<Body<P>, Refusal>
 
 // The payload in the first words: a wrong kind among them is refused before the payload's own reading is asked.
 fn read_payload<P: Payload>(ws: &[u32]) -> Result<P, Refusal>
-    requires { size ≤ length ws.now }
-    ensures { answer result ≡ payload_of size reads ws.now }
+    requires { P.size ≤ length ws.now }
+    ensures { answer result ≡ payload_of P.size P.reads ws.now }
 {
     let mut values = [0; 4];
     let count = P::count();
@@ -82,8 +82,8 @@ fn read_payload<P: Payload>(ws: &[u32]) -> Result<P, Refusal>
 }
 
 fn read_token<P: Payload>(ws: &[u32]) -> Result<Body<P>, Refusal>
-    requires { 2 + size ≤ length ws.now }
-    ensures { answer result ≡ body_of size reads kinds.Token ws.now }
+    requires { 2 + P.size ≤ length ws.now }
+    ensures { answer result ≡ body_of P.size P.reads kinds.Token ws.now }
 {
     let s = read_field(ws[0], Field::Number)?;
     let r = read_field(ws[1], Field::Clock)?;
@@ -93,8 +93,8 @@ fn read_token<P: Payload>(ws: &[u32]) -> Result<Body<P>, Refusal>
 
 // The body of that kind of frame in the words after the head.
 fn read_body<P: Payload>(kind: Kind, ws: &[u32]) -> Result<Body<P>, Refusal>
-    requires { count_after size kind ≤ length ws.now }
-    ensures { answer result ≡ body_of size reads kind ws.now }
+    requires { count_after P.size kind ≤ length ws.now }
+    ensures { answer result ≡ body_of P.size P.reads kind ws.now }
 {
     match kind {
         Kind::ReqSlots => read_req_slots(ws),
@@ -106,7 +106,7 @@ fn read_body<P: Payload>(kind: Kind, ws: &[u32]) -> Result<Body<P>, Refusal>
 
 // The frame of that kind with that head, whose other words come first in `rest`.
 fn read_after<P: Payload>(head: u32, kind: Kind, rest: &[u32]) -> Result<(Frame<P>, usize), Refusal>
-    ensures { answer result ≡ frame_of size reads head kind rest.now }
+    ensures { answer result ≡ frame_of P.size P.reads head kind rest.now }
 {
     let count = count_after::<P>(kind);
     if head_count(head) != count {
@@ -126,9 +126,9 @@ fn read_after<P: Payload>(head: u32, kind: Kind, rest: &[u32]) -> Result<(Frame<
 
 // The frame at the front of a run of words, and how many of them it takes.
 pub fn read_frame<P: Payload>(run: &[u32]) -> Result<(Frame<P>, usize), Refusal>
-    ensures told { answer result ≡ frame_at size reads run.now }
+    ensures told { answer result ≡ frame_at P.size P.reads run.now }
     ensures within { IfOk result (λ got. got.1 ≤ length run.now) }
-    ensures writes_back { WritesBack words run.now (answer result) }
+    ensures writes_back { WritesBack P.words run.now (answer result) }
 {
     let [head, rest @ ..] = run else {
         return Err(Refusal::EmptyRun);

@@ -46,7 +46,7 @@ fn frame_fits<P: Payload>(frame: Frame<P>) -> bool
 
 // How many words a frame takes.
 fn word_count<P: Payload>(frame: Frame<P>) -> usize
-    ensures count { result ≡ length (frame_words words frame) }
+    ensures count { result ≡ length (frame_words P.words frame) }
     ensures few { result ≤ 7 }
 {
     count_after::<P>(kind_of(frame.body)) + 1
@@ -62,8 +62,8 @@ fn head_of<P: Payload>(frame: Frame<P>, count: usize) -> u32
 
 // Writes the payload's words over the front of the run.
 fn put_payload<P: Payload>(payload: P, run: &mut [u32])
-    requires { size ≤ length run.old }
-    ensures { run.new ≡ map (word 12) (words payload) ++ drop size run.old }
+    requires { P.size ≤ length run.old }
+    ensures { run.new ≡ map (word 12) (P.words payload) ++ drop P.size run.old }
 {
     for i in 0..P::count() {
         run[i] = field_word(Field::Payload, u64::from(payload.word(i)));
@@ -72,8 +72,8 @@ fn put_payload<P: Payload>(payload: P, run: &mut [u32])
 
 // Writes the head, the two fields and the payload of a token over the front of the run.
 fn put_token<P: Payload>(head: u32, s: u64, r: u64, payload: P, run: &mut [u32])
-    requires { (s < 2 ^ 28) × ((r < 2 ^ 28) × (3 + size ≤ length run.old)) }
-    ensures { run.new ≡ (head ∷ field_words words (Body.Token s r payload)) ++ drop (3 + size) run.old }
+    requires { (s < 2 ^ 28) × ((r < 2 ^ 28) × (3 + P.size ≤ length run.old)) }
+    ensures { run.new ≡ (head ∷ field_words P.words (Body.Token s r payload)) ++ drop (3 + P.size) run.old }
 {
     let s = field_word(Field::Number, s);
     let r = field_word(Field::Clock, r);
@@ -83,8 +83,8 @@ fn put_token<P: Payload>(head: u32, s: u64, r: u64, payload: P, run: &mut [u32])
 
 // Writes the head and the words after it over the front of the run.
 fn put_words<P: Payload>(head: u32, body: Body<P>, run: &mut [u32])
-    requires { (body_fits body ≡ true) × (count_after size (kind_of body) < length run.old) }
-    ensures { run.new ≡ (head ∷ field_words words body) ++ drop (count_after size (kind_of body) + 1) run.old }
+    requires { (body_fits body ≡ true) × (count_after P.size (kind_of body) < length run.old) }
+    ensures { run.new ≡ (head ∷ field_words P.words body) ++ drop (count_after P.size (kind_of body) + 1) run.old }
 {
     match body {
         Body::ReqSlots { s, n, l } => {
@@ -110,10 +110,10 @@ fn put_words<P: Payload>(head: u32, body: Body<P>, run: &mut [u32])
 
 // Writes a frame's words over the front of a run, and gives their count. A refusal leaves the run as it was.
 pub fn write_frame<P: Payload>(frame: Frame<P>, run: &mut [u32]) -> Result<usize, Refusal>
-    ensures told { answer result ≡ writes words frame (length run.old) }
-    ensures after { run.new ≡ overwritten (frame_words words frame) (answer result) run.old }
+    ensures told { answer result ≡ writes P.words frame (length run.old) }
+    ensures after { run.new ≡ overwritten (frame_words P.words frame) (answer result) run.old }
     ensures within { IfOk result (λ n. n ≤ length run.old) }
-    ensures reads_back { ReadsBack size reads frame (answer result) run.new }
+    ensures reads_back { ReadsBack P.size P.reads frame (answer result) run.new }
 {
     if !frame_fits(frame) {
         return Err(Refusal::TooLarge);

@@ -1,4 +1,6 @@
 // Channels played by commands on standard input.
+#![tactic(auto)]
+
 mod pile;
 mod player;
 mod report;

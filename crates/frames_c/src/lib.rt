@@ -1,3 +1,5 @@
 // The codec for C callers, on frames whose payload is a profile line.
+#![tactic(auto)]
+
 mod calls;
 pub mod line_frame;

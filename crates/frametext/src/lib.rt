@@ -1,4 +1,6 @@
 // Frames and words as text.
+#![tactic(auto)]
+
 pub mod fault;
 pub mod frame_text;
 pub mod payload_text;

@@ -1,4 +1,6 @@
 // Frames to words and words to frames, by commands on standard input.
+#![tactic(auto)]
+
 mod session;
 
 use session::Session;

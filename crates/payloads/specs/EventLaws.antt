@@ -1,14 +1,14 @@
 -- The laws of a lift event's words.
-use Rattle.std.specs.Prelude.{◌≡◌, ℕ, ◌+◌, ◌*◌, ◌/◌, ◌%◌, ◌^◌, ◌<◌, ◌≤◌, Bool, true, false, cond, ◌&&◌, List, [], ◌∷◌, ℤ, pos, negsuc, ◌+ℤ◌, ◌≤ℤ◌, Some, None, Option, int_le, nat_le, refl}
-use Rattle.std.proofs.Common.{sym, ap, subst, ◌∙◌, arith}
+use Rattle.std.specs.Prelude.{◌≡◌, ℕ, ◌+◌, ◌*◌, ◌/◌, ◌%◌, ◌^◌, ◌<◌, ◌≤◌, Bool, true, false, List, [], ◌∷◌, ℤ, pos, negsuc, ◌+ℤ◌, ◌≤ℤ◌, Some, None, Option, int_le, nat_le, refl}
+use Rattle.std.proofs.Common.{ap, ◌∙◌, arith}
 use Rattle.std.proofs.lemmas.Int.{ints}
-use Rattle.std.proofs.lemmas.Nat.{div-mul-add, mod-mul-add, div-add-mod'}
+use Rattle.std.proofs.lemmas.Nat.{div-mul-add, mod-mul-add}
 use Rattle.std.proofs.lemmas.Bool.{leb-true, and_parts, and_right}
 use Rattle.std.proofs.lemmas.Bool.Decides.{nat_tests}
 use Rattle.payloads.specs.declared.sort.Sort.{Sort}
 use Rattle.payloads.specs.declared.sort.Sort.TheVariants.{AlarmPressed, DoorFault, Stopped}
 use Rattle.payloads.specs.declared.event.LiftEvent.{LiftEvent}
-use Rattle.payloads.specs.Ranges.{sort_fits, event_fits, raised, lowered}
+use Rattle.payloads.specs.Ranges.{sort_fits}
 use Rattle.payloads.specs.Events.{event_of, sort_code, sort_detail, sort_of, event_by, event_words, event_reads}
 use Rattle.payloads.specs.Made.{checked-at, checked-none, checked-only}
 use Rattle.payloads.specs.Signs.{raised-lowered, lowered-raised}

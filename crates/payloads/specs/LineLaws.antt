@@ -1,11 +1,11 @@
 -- The laws of a profile line's word.
-use Rattle.std.specs.Prelude.{◌≡◌, ℕ, ◌+◌, ◌*◌, ◌/◌, ◌%◌, ◌^◌, ◌<◌, ◌≤◌, true, ◌&&◌, List, [], ◌∷◌, ℤ, pos, negsuc, ◌+ℤ◌, ◌≤ℤ◌, Some, None, int_le, nat_le, refl}
+use Rattle.std.specs.Prelude.{◌≡◌, ℕ, ◌+◌, ◌*◌, ◌/◌, ◌%◌, ◌^◌, ◌<◌, ◌≤◌, true, ◌&&◌, List, [], ◌∷◌, pos, negsuc, ◌+ℤ◌, ◌≤ℤ◌, Some, int_le, nat_le}
 use Rattle.std.proofs.Common.{sym, ap, ◌∙◌, arith}
 use Rattle.std.proofs.lemmas.Int.{ints}
-use Rattle.std.proofs.lemmas.Nat.{div-mul-add, mod-mul-add, div-add-mod'}
+use Rattle.std.proofs.lemmas.Nat.{div-mul-add, mod-mul-add}
 use Rattle.std.proofs.lemmas.Bool.{leb-true, and_parts}
 use Rattle.payloads.specs.declared.line.ProfileLine.{ProfileLine}
-use Rattle.payloads.specs.Ranges.{line_fits, raised, lowered}
+use Rattle.payloads.specs.Ranges.{raised, lowered}
 use Rattle.payloads.specs.Lines.{line_of, line_words, line_reads}
 use Rattle.payloads.specs.Made.{checked-at, checked-only}
 use Rattle.payloads.specs.Signs.{raised-lowered, lowered-raised}

@@ -1,6 +1,6 @@
 -- The laws of a value that is made where a test holds.
 use Rattle.std.specs.Prelude.{◌≡◌, ℕ, Bool, true, false, Some, None, refl}
-use Rattle.std.proofs.Common.{ap, ◌∙◌, arith}
+use Rattle.std.proofs.Common.{ap, arith}
 use Rattle.std.proofs.Math.Bool.{Bool-set}
 use Rattle.payloads.specs.Checked.{checked}
 

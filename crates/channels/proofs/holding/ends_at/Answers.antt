@@ -12,14 +12,14 @@ returns-then-is-some g c =
 pub returns-then-i-eq0 : goal.returns-then-i-eq0
 returns-then-i-eq0 g c =
     let fs = g.C.Channel.waits c.args.channel.now in
-    let there = ap is_some (sym c.look.ensures) ∙ sym c.is-some.ensures ∙ c.if-is-some.false in
+    let there = ap is_some (sym c.look.ensures) ∙ sym c.is_some.ensures ∙ c.if-is_some.false in
     let e = ends-start fs c.args.i there c.if-i-eq0.true in
     record { count = e; held = ends_held fs c.args.i _ e; others = ends-others fs c.args.i _ e }
 
 pub returns : goal.returns
 returns g c =
     let fs = g.C.Channel.waits c.args.channel.now in
-    let there = ap is_some (sym c.look.ensures) ∙ sym c.is-some.ensures ∙ c.if-is-some.false in
-    let before = ap is_some (sym c.look-2.ensures) ∙ sym c.is-some-2.ensures in
-    let e = ends-after fs c.args.i c.is-some-2.result there c.if-i-eq0.false before in
+    let there = ap is_some (sym c.look.ensures) ∙ sym c.is_some.ensures ∙ c.if-is_some.false in
+    let before = ap is_some (sym c.look-2.ensures) ∙ sym c.is_some-2.ensures in
+    let e = ends-after fs c.args.i c.is_some-2.result there c.if-i-eq0.false before in
     record { count = e; held = ends_held fs c.args.i _ e; others = ends-others fs c.args.i _ e }

@@ -19,9 +19,9 @@ loop-i-preserved g c =
     let i = c.loop-i.i in
     let few = g.met.P.Payload.few in (
       length-set _ _ _ ∙ c.loop-i.invariant.0,
-      all_of-more 12 i ws (omega arith) c.loop-i.invariant.1 (sym c.if-not-is-field.ensures),
-      take_more_set c.loop-i.values i c.value-of.result (omega arith)
-          ∙ ap (λ vs. vs ++ c.value-of.result ∷ []) c.loop-i.invariant.2
-          ∙ ap (λ v. map word_value (take i ws) ++ v ∷ []) c.value-of.ensures
+      all_of-more 12 i ws (omega arith) c.loop-i.invariant.1 (sym c.if-not-is_field.ensures),
+      take_more_set c.loop-i.values i c.value_of.result (omega arith)
+          ∙ ap (λ vs. vs ++ c.value_of.result ∷ []) c.loop-i.invariant.2
+          ∙ ap (λ v. map word_value (take i ws) ++ v ∷ []) c.value_of.ensures
           ∙ sym (map_more word_value ws i 0 (omega arith)),
     )

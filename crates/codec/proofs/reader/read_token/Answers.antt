@@ -7,4 +7,4 @@ returns-in-err-payload g c =
     let read = simp take_rest at c.in-err-payload.ensures in search rules
 
 pub returns : goal.returns
-returns g c = let read = simp take_rest at c.in-ok-payload.ensures in search rules
+returns g c = let read = simp take_rest at c.in_ok-payload.ensures in search rules

@@ -20,8 +20,8 @@ loop-i-preserved g c =
     let counted = g.met.P.Payload.counted c.args.payload in
     let long = length-map ws (word 12) in
     let here = get_or-map (word 12) ws i 0 0 (omega arith) in
-    let wrote : c.field-word.result ≡ get_or (map (word 12) ws) i 0 =
-    c.field-word.ensures ∙ ap (word 12) (c.from.ensures ∙ c.word.ensures) ∙ sym here in
+    let wrote : c.field_word.result ≡ get_or (map (word 12) ws) i 0 =
+    c.field_word.ensures ∙ ap (word 12) (c.from.ensures ∙ c.word.ensures) ∙ sym here in
     ap (λ v. set c.loop-i.run i v) wrote
     ∙ ap (λ run. set run i (get_or (map (word 12) ws) i 0)) c.loop-i.invariant
     ∙ laid_more (map (word 12) ws) c.args.run.now i (omega arith) (omega arith)

@@ -8,7 +8,7 @@ pub returns : goal.returns
 returns g c =
     let p = g.P.Payload in
     let b = c.args.frame.body in
-    let kind = ap (count_after p.size) c.kind-of.ensures in
+    let kind = ap (count_after p.size) c.kind_of.ensures in
     let counted = fields-counted p.size p.words g.met.P.Payload.counted b in
     let few = count-few p.size g.met.P.Payload.few (kind_of b) in
     record { count = omega arith; few = omega arith }
