@@ -55,7 +55,7 @@ record ThreeRead {A B : Type 0} (j k x y : ℕ) (third : Answer A) (make : ℕ �
   first : FieldRead j x u
   second : FieldRead k y v
   third-is : third ≡ gives w
-  IfOk : make u v w ≡ b
+  made : make u v w ≡ b
 
 three-only : {A B : Type 0} (j k x y : ℕ) (third : Answer A) (make : ℕ → ℕ → A → B) (b : B)
     → and_then (field_of j x) (λ u. and_then (field_of k y) (λ v. and_then third (λ w. gives (make u v w)))) ≡ gives b

@@ -2,10 +2,10 @@ use Rattle.std.proofs.Common.{is_some, sym, ap, ◌∙◌}
 use Rattle.channels.proofs.Held.{ends_some, ends-start, ends-after, ends_held, ends-others}
 use Rattle.channels.proofs.holding.ends_at.Goals as goal
 
-pub returns-then-is-some : goal.returns-then-is-some
-returns-then-is-some g c =
+pub returns-then-is_some : goal.returns-then-is_some
+returns-then-is_some g c =
     let fs = g.C.Channel.waits c.args.channel.now in
-    let there = ap is_some (sym c.look.ensures) ∙ sym c.is-some.ensures ∙ c.if-is-some.true in
+    let there = ap is_some (sym c.look.ensures) ∙ sym c.is_some.ensures ∙ c.if-is_some.true in
     let e = ends_some fs c.args.i there in
     record { count = e; held = ends_held fs c.args.i _ e; others = ends-others fs c.args.i _ e }
 

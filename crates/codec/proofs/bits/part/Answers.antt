@@ -3,8 +3,8 @@ use lib.Bits.{bit_and}
 use Rattle.std.proofs.lemmas.Nat.{one_shl, and_mask, pow_pos}
 use Rattle.codec.proofs.bits.part.Goals as goal
 
-pub overflow-sub-result : goal.overflow-sub-result
-overflow-sub-result c = omega (arith, one_shl c.args.width 32 c.requires.1, pow_pos c.args.width)
+pub overflow_sub-result : goal.overflow_sub-result
+overflow_sub-result c = omega (arith, one_shl c.args.width 32 c.requires.1, pow_pos c.args.width)
 
 pub returns : goal.returns
 returns c =

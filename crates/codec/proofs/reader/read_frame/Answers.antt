@@ -15,5 +15,5 @@ returns g c =
     record {
       told = told;
       within = used-within p.size p.words p.reads laws.only run c.read_after.result told;
-      writes-back = λ f n e. written_back p.size p.words p.reads laws.only run f n (sym told ∙ e);
+      writes_back = λ f n e. written_back p.size p.words p.reads laws.only run f n (sym told ∙ e);
     }

@@ -6,11 +6,11 @@ use Rattle.codec.specs.Words.{word_value}
 use Rattle.codec.proofs.Runs.{all_of-more, all_of-spoilt}
 use Rattle.codec.proofs.reader.read_payload.Goals as goal
 
-pub returns-then-not-is-field : goal.returns-then-not-is-field
-returns-then-not-is-field g c =
+pub returns-then-not-is_field : goal.returns-then-not-is_field
+returns-then-not-is_field g c =
     let ws = c.args.ws.now in
     let size = g.P.Payload.size in
-    let spoilt = all_of-spoilt 12 c.loop-i.i size ws (omega arith) (omega arith) (sym c.if-not-is-field.ensures) in
+    let spoilt = all_of-spoilt 12 c.loop-i.i size ws (omega arith) (omega arith) (sym c.if-not-is_field.ensures) in
     sym (cond-false _ (or_refuse (g.P.Payload.reads (map word_value (take size ws))) 17) (refuses 16) spoilt)
 
 pub loop-i-preserved : goal.loop-i-preserved

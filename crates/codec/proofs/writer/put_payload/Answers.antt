@@ -6,8 +6,8 @@ use Rattle.codec.specs.Words.{word}
 use Rattle.codec.proofs.Runs.{laid_more}
 use Rattle.codec.proofs.writer.put_payload.Goals as goal
 
-pub field-word-requires : goal.field-word-requires
-field-word-requires g c =
+pub field_word-requires : goal.field_word-requires
+field_word-requires g c =
     let ws = g.P.Payload.words c.args.payload in
     let counted = g.met.P.Payload.counted c.args.payload in
     let narrow = All-get_or (λ w. w < 2 ^ 28) ws c.loop-i.i 0 (omega arith) (g.met.P.Payload.narrow c.args.payload) in

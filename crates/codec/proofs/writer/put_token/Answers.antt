@@ -7,4 +7,4 @@ pub returns : goal.returns
 returns g c =
     let ws = map (word 12) (g.P.Payload.words c.args.payload) in
     laid-behind c.args.head (word 8 c.args.s) (word 9 c.args.r) g.P.Payload.size ws c.args.run.now
-    c.copy_from_slice.new.self c.put-payload.new.run (search rules) c.put-payload.ensures
+    c.copy_from_slice.new.self c.put_payload.new.run (search rules) c.put_payload.ensures

@@ -9,12 +9,12 @@ use Rattle.codec.proofs.Written.{frame-fits, gives_same, writes-fitting}
 use Rattle.codec.proofs.ReadBack.{frame_back}
 use Rattle.codec.proofs.writer.write_frame.Goals as goal
 
-pub put-words-requires : goal.put-words-requires
-put-words-requires g c =
+pub put_words-requires : goal.put_words-requires
+put_words-requires g c =
     let p = g.P.Payload in
     let f = c.args.frame in
     let counted = fields-counted p.size p.words g.met.P.Payload.counted f.body in
-    ((frame-fits f (sym c.if-not-frame-fits.ensures)).body, omega arith)
+    ((frame-fits f (sym c.if-not-frame_fits.ensures)).body, omega arith)
 
 pub returns : goal.returns
 returns g c =
@@ -24,14 +24,14 @@ returns g c =
     let n = c.word_count-count.result in
     let run = c.args.run.now in
     let fields = field_words p.words f.body in
-    let fits = sym c.if-not-frame-fits.ensures in
+    let fits = sym c.if-not-frame_fits.ensures in
     let count = c.word_count-count.ensures.count in
     let counted = fields-counted p.size p.words laws.counted f.body in
     let long : n - 1 ≡ length fields = omega arith in
     let whole : count_after p.size (kind_of f.body) + 1 ≡ n = omega arith in
-    let head = c.head-of.ensures ∙ ap (head_word (kind_code (kind_of f.body)) f.sender f.addressee) long in
-    let after : c.put-words.new.run ≡ frame_words p.words f ++ drop n run =
-    c.put-words.ensures
+    let head = c.head_of.ensures ∙ ap (head_word (kind_code (kind_of f.body)) f.sender f.addressee) long in
+    let after : c.put_words.new.run ≡ frame_words p.words f ++ drop n run =
+    c.put_words.ensures
     ∙ ap (λ h. h ∷ (fields ++ drop (count_after p.size (kind_of f.body) + 1) run)) head
     ∙ ap (λ k. frame_words p.words f ++ drop k run) whole in
     let back = frame_back p.size p.words p.reads laws.few laws.counted laws.narrow laws.back f (drop n run) fits in
@@ -39,6 +39,6 @@ returns g c =
       told = sym (writes-fitting p.words f (length run) n fits count (omega arith));
       after = after;
       within = omega arith;
-      reads-back = λ m e.
+      reads_back = λ m e.
           ap (frame_at p.size p.reads) after ∙ back ∙ ap (λ k. gives (f, k)) (sym count ∙ gives_same n m e);
     }

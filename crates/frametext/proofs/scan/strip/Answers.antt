@@ -2,4 +2,4 @@ use Rattle.frametext.specs.Cuts.{strip-read}
 use Rattle.frametext.proofs.scan.strip.Goals as goal
 
 pub returns : goal.returns
-returns c = strip-read c.args.label.now c.args.word.now c.strip-prefix.result c.strip-prefix.ensures.cases
+returns c = strip-read c.args.label.now c.args.word.now c.strip_prefix.result c.strip_prefix.ensures.cases

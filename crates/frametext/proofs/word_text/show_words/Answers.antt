@@ -8,10 +8,10 @@ pub loop-w-preserved : goal.loop-w-preserved
 loop-w-preserved c =
     let ws = c.args.words.now in
     let i = c.loop-w.w-index in
-    let word = c.as-str-in-loop-w.result.now in
-    c.in-ok-text.ensures
-    ∙ ap (λ t. with_word t word) (c.as-str.ensures.value ∙ c.loop-w.invariant)
-    ∙ ap (with_word (words_text (take i ws))) (c.as-str-in-loop-w.ensures.value ∙ c.in-ok-word.ensures)
+    let word = c.as_str-in-loop-w.result.now in
+    c.in_ok-text.ensures
+    ∙ ap (λ t. with_word t word) (c.as_str.ensures.value ∙ c.loop-w.invariant)
+    ∙ ap (with_word (words_text (take i ws))) (c.as_str-in-loop-w.ensures.value ∙ c.in_ok-word.ensures)
     ∙ words_more ws i (omega arith)
 
 pub returns : goal.returns
