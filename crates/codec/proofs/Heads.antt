@@ -1,5 +1,5 @@
 -- Words and heads taken apart are what they were put together from.
-use Rattle.std.proofs.Common.{◌≡◌, ℕ, ◌+◌, ◌*◌, ◌/◌, ◌%◌, ◌^◌, ◌<◌, Some, refl, arith}
+use Rattle.std.proofs.Common.{◌≡◌, ℕ, ◌+◌, ◌*◌, ◌^◌, ◌<◌, Some, refl, arith}
 use Rattle.std.proofs.lemmas.Nat.{shr_high, mod_low}
 use Rattle.codec.specs.declared.word.Kind.{Kind}
 use Rattle.codec.specs.declared.word.Kind.TheVariants as kinds

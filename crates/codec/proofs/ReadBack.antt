@@ -1,17 +1,16 @@
 -- A frame reads back from its words.
-use Rattle.std.proofs.Common.{◌≡◌, ℕ, ◌+◌, ◌^◌, ◌<◌, ◌≤◌, true, cond, ◌&&◌, eqb, leb, List, [], ◌∷◌, ◌++◌, map, length, take, Some, Option, refl, ap, ◌∙◌, arith}
+use Rattle.std.proofs.Common.{◌≡◌, ℕ, ◌+◌, ◌^◌, ◌<◌, ◌≤◌, true, ◌&&◌, leb, List, [], ◌∷◌, ◌++◌, map, length, Some, Option, refl, ◌∙◌, arith}
 use lib.ListN.{length-map}
 use Rattle.std.specs.List.{AllByRecursion}
 use Rattle.std.proofs.lemmas.List.{take_at, length-append}
 use Rattle.std.proofs.lemmas.Bool.{eq-eqb, le-leb, leb-true, and_parts}
-use Rattle.std.proofs.lemmas.Bool.Decides.{nat_tests}
 use Rattle.frames.specs.declared.frame.Frame.{Frame}
 use Rattle.frames.specs.declared.frame.Body.{Body}
 use Rattle.frames.specs.declared.frame.Body.TheVariants.{ReqSlots, Slots, Token, Ack}
-use Rattle.frames.specs.Answers.{gives, refuses, or_refuse}
-use Rattle.codec.specs.Words.{word, word_kind, word_value, head_word, head_sender, head_addressee, head_count, kind_code, kind_at}
+use Rattle.frames.specs.Answers.{gives}
+use Rattle.codec.specs.Words.{word, word_kind, word_value, head_word, head_count, kind_code}
 use Rattle.codec.specs.Layout.{last_clock, kind_of, field_words, frame_words, body_fits, frame_fits}
-use Rattle.codec.specs.Reading.{count_after, field_of, all_of, payload_of, body_of, frame_of, frame_at}
+use Rattle.codec.specs.Reading.{count_after, field_of, all_of, payload_of, body_of, frame_at}
 use Rattle.codec.proofs.Counts.{fields-counted, count-few}
 use Rattle.codec.proofs.Written.{frame-fits}
 use Rattle.codec.proofs.Heads.{kind-back, value-back, kind_at-code, head-kind-back, head-sender-back, head-addressee-back, head-count-back}

@@ -1,6 +1,6 @@
 -- Words that read as a frame are the words of that frame.
-use Rattle.std.proofs.Common.{◌≡◌, ℕ, suc, ◌+◌, ◌*◌, ◌/◌, ◌%◌, ◌^◌, ◌<◌, ◌≤◌, Bool, true, false, cond, ◌&&◌, eqb, leb, List, [], ◌∷◌, map, length, get_or, take, drop, IfOk, Some, None, Ok, Err, Option, Result, sym, refl, ap, ◌∙◌, subst, arith}
-use Rattle.std.proofs.lemmas.Nat.{div-add-mod', shr_split, shr-shr}
+use Rattle.std.proofs.Common.{◌≡◌, ℕ, suc, ◌+◌, ◌^◌, ◌≤◌, Bool, true, false, cond, eqb, leb, List, [], ◌∷◌, map, length, take, IfOk, Some, None, Ok, Err, Option, Result, sym, refl, ap, ◌∙◌, subst, arith}
+use Rattle.std.proofs.lemmas.Nat.{div-add-mod'}
 use Rattle.std.proofs.lemmas.List.{length-take, length-take-le}
 use Rattle.std.proofs.lemmas.Bool.Decides.{nat_tests}
 use Rattle.std.proofs.lemmas.Bool.{eqb-true, leb-true, le-leb, and_parts, and_from}
@@ -12,7 +12,7 @@ use Rattle.frames.specs.Answers.{Answer, answer, gives, refuses, and_then, or_re
 use Rattle.codec.specs.declared.word.Kind.{Kind}
 use Rattle.codec.specs.declared.word.Kind.TheVariants as kinds
 use Rattle.codec.specs.Words.{word, word_kind, word_value, head_word, head_sender, head_addressee, head_count, kind_code, kind_at}
-use Rattle.codec.specs.Layout.{last_clock, kind_of, field_words, frame_words, body_fits, frame_fits}
+use Rattle.codec.specs.Layout.{last_clock, kind_of, field_words, frame_words, body_fits}
 use Rattle.codec.specs.Writing.{writes}
 use Rattle.codec.specs.Reading.{headed, count_after, field_of, all_of, payload_of, body_of, frame_of, frame_at}
 use Rattle.codec.specs.Trips.{WritesBack}

@@ -2,7 +2,7 @@
 use Rattle.std.proofs.Common.{◌≡◌, ℕ, ◌<◌, ◌≤◌, Bool, true, false, cond, ◌&&◌, leb, List, length, sym, refl, ap, arith}
 use Rattle.std.proofs.lemmas.Bool.{leb-true, le-leb, and_parts}
 use Rattle.frames.specs.declared.frame.Frame.{Frame}
-use Rattle.frames.specs.Answers.{Answer, gives, refuses}
+use Rattle.frames.specs.Answers.{gives, refuses}
 use Rattle.codec.specs.Layout.{frame_words, body_fits, frame_fits}
 use Rattle.codec.specs.Writing.{writes}
 

@@ -1,15 +1,14 @@
 -- Frames read back from their text.
-use Rattle.std.proofs.Common.{◌≡◌, ℕ, zero, suc, ◌^◌, ◌<◌, Bool, true, false, List, [], ◌∷◌, ◌++◌, drop, Some, None, codes, decimal, sym, refl, ap, ◌∙◌, arith}
+use Rattle.std.proofs.Common.{◌≡◌, ℕ, zero, suc, ◌^◌, ◌<◌, Bool, true, false, List, [], ◌∷◌, ◌++◌, drop, codes, decimal, sym, refl, ap, ◌∙◌, arith}
 use Rattle.std.specs.Str.{bytes_eq}
 use Rattle.std.proofs.lemmas.Slice.Eq.{bytes_eq-Decides}
 use Rattle.std.proofs.lemmas.List.{append_assoc}
 use Rattle.frames.specs.declared.frame.Frame.{Frame}
 use Rattle.frames.specs.declared.frame.Body.{Body}
 use Rattle.frames.specs.declared.frame.Body.TheVariants.{ReqSlots, Slots, Token, Ack}
-use Rattle.frametext.specs.Scan.{before, behind, first_word, other_words}
-use Rattle.frametext.specs.Told.{Told, tells, unread, and_tell, or_unread, end_in}
-use Rattle.frametext.specs.Numbers.{number_in, field_in}
-use Rattle.frametext.specs.Frames.{body_held, Held, first_field, route_in, body_text, frame_text, req_slots_in, slots_in, token_in, ack_in, kind_in, frame_in}
+use Rattle.frametext.specs.Scan.{first_word, other_words}
+use Rattle.frametext.specs.Told.{Told, tells, unread}
+use Rattle.frametext.specs.Frames.{body_held, Held, body_text, frame_text, kind_in, frame_in}
 use Rattle.frametext.specs.Cuts.{Lacks, before-cut, behind-cut, before-all, behind-none}
 use Rattle.frametext.specs.Digits.{number-back, decimal-lacks}
 

@@ -1,9 +1,7 @@
 -- Payloads read back from their text.
-use Rattle.std.specs.Prelude.{◌≡◌, ℕ, ◌^◌, ◌<◌, ◌≤◌, true, ◌&&◌, List, [], ◌∷◌, ◌++◌, length, drop, ℤ, pos, negsuc, Some, None, codes, decimal, FitsSigned, int_le, nat_le, refl}
-use Rattle.std.proofs.Common.{sym, ap, ◌∙◌, arith}
-use Rattle.std.proofs.lemmas.Int.{ints}
+use Rattle.std.specs.Prelude.{◌≡◌, ℕ, ◌^◌, ◌<◌, true, ◌&&◌, ◌∷◌, ◌++◌, drop, ℤ, pos, negsuc, codes, decimal, FitsSigned, int_le, nat_le, refl}
+use Rattle.std.proofs.Common.{ap, ◌∙◌, arith}
 use Rattle.std.specs.Int.{w32}
-use Rattle.std.specs.Int.Signed.{mag}
 use Rattle.std.specs.Fmt.{signed_decimal}
 use Rattle.std.proofs.lemmas.Bool.{leb-true, and_parts}
 use Rattle.payloads.specs.declared.line.ProfileLine.{ProfileLine}
@@ -11,15 +9,11 @@ use Rattle.payloads.specs.declared.event.LiftEvent.{LiftEvent}
 use Rattle.payloads.specs.declared.sort.Sort.{Sort}
 use Rattle.payloads.specs.declared.sort.Sort.TheVariants.{AlarmPressed, DoorFault, Stopped}
 use Rattle.payloads.specs.Ranges.{sort_fits}
-use Rattle.payloads.specs.Lines.{line_of}
-use Rattle.payloads.specs.Events.{event_of}
 use Rattle.payloads.specs.LineLaws.{line_of-parts}
 use Rattle.payloads.specs.EventLaws.{event_of-parts, in-range}
-use Rattle.frametext.specs.Scan.{before, behind, stripped, first_word, other_words}
-use Rattle.frametext.specs.Told.{Told, tells, and_tell, or_unread, or_no_payload}
-use Rattle.frametext.specs.Numbers.{number_in, signed_in, field_in, signed_field_in}
-use Rattle.frametext.specs.Payloads.{parts_text, line_text, line_in, sort_text, sort_in, event_text, event_in}
-use Rattle.frametext.specs.Cuts.{Lacks, before-cut, behind-cut, stripped-front}
+use Rattle.frametext.specs.Told.{tells}
+use Rattle.frametext.specs.Payloads.{line_text, line_in, sort_text, sort_in, event_text, event_in}
+use Rattle.frametext.specs.Cuts.{Lacks, before-cut, behind-cut}
 use Rattle.frametext.specs.Digits.{number-back, signed_back, decimal-lacks}
 
 -- a number in range fits 32 bits

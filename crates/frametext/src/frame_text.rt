@@ -27,7 +27,7 @@ fn show_req_slots(
 
 // The text of a frame, by its kind.
 fn spell<P: PayloadText>(frame: Frame<P>, heap: Global) -> Result<String, AllocError>
-    ensures { IfOk result (λ s. string_bytes s ≡ frame_text spelling frame) }
+    ensures { IfOk result (λ s. string_bytes s ≡ frame_text P.spelling frame) }
 {
     let from = frame.sender;
     let to = frame.addressee;
@@ -45,8 +45,8 @@ fn spell<P: PayloadText>(frame: Frame<P>, heap: Global) -> Result<String, AllocE
 
 // The text of a frame, which reads back as that frame, whatever numbers its types hold.
 pub fn show_frame<P: PayloadText>(frame: Frame<P>, heap: Global) -> Result<String, AllocError>
-    ensures text { IfOk result (λ s. string_bytes s ≡ frame_text spelling frame) }
-    ensures reads_back { Held frame → frame_in spelled (frame_text spelling frame) ≡ tells frame }
+    ensures text { IfOk result (λ s. string_bytes s ≡ frame_text P.spelling frame) }
+    ensures reads_back { Held frame → frame_in P.spelled (frame_text P.spelling frame) ≡ tells frame }
 {
     spell(frame, heap)
 }
@@ -83,21 +83,21 @@ fn three_fields(text: &str, second: Label, third: Label) -> Result<(u64, u64, u6
 }
 
 fn parse_req_slots<P: PayloadText>(text: &str) -> Result<Body<P>, Fault>
-    ensures { told result ≡ req_slots_in spelled text.now }
+    ensures { told result ≡ req_slots_in P.spelled text.now }
 {
     let (s, n, l) = three_fields(text, Label::N, Label::L)?;
     Ok(Body::ReqSlots { s, n, l })
 }
 
 fn parse_slots<P: PayloadText>(text: &str) -> Result<Body<P>, Fault>
-    ensures { told result ≡ slots_in spelled text.now }
+    ensures { told result ≡ slots_in P.spelled text.now }
 {
     let (s, r, n) = three_fields(text, Label::R, Label::N)?;
     Ok(Body::Slots { s, r, n })
 }
 
 fn parse_token<P: PayloadText>(text: &str) -> Result<Body<P>, Fault>
-    ensures { told result ≡ token_in spelled text.now }
+    ensures { told result ≡ token_in P.spelled text.now }
 {
     let (s, r) = two_fields(text, Label::R)?;
     let payload = P::parse(behind_two(text))?;
@@ -105,7 +105,7 @@ fn parse_token<P: PayloadText>(text: &str) -> Result<Body<P>, Fault>
 }
 
 fn parse_ack<P: PayloadText>(text: &str) -> Result<Body<P>, Fault>
-    ensures { told result ≡ ack_in spelled text.now }
+    ensures { told result ≡ ack_in P.spelled text.now }
 {
     let (s, r) = two_fields(text, Label::R)?;
     ends(behind_two(text))?;
@@ -114,7 +114,7 @@ fn parse_ack<P: PayloadText>(text: &str) -> Result<Body<P>, Fault>
 
 // The body of that kind that a text shows.
 fn parse_kind<P: PayloadText>(kind: &str, text: &str) -> Result<Body<P>, Fault>
-    ensures { told result ≡ kind_in spelled kind.now text.now }
+    ensures { told result ≡ kind_in P.spelled kind.now text.now }
 {
     match kind {
         "REQSLOTS" => parse_req_slots(text),
@@ -139,7 +139,7 @@ fn parse_route(word: &str) -> Result<(u32, u32), Fault>
 
 // The frame that a text shows: its words one space apart, and nothing around them.
 pub fn parse_frame<P: PayloadText>(text: &str) -> Result<Frame<P>, Fault>
-    ensures { told result ≡ frame_in spelled text.now }
+    ensures { told result ≡ frame_in P.spelled text.now }
 {
     let (route, rest) = next_word(text);
     let (kind, rest) = next_word(rest);

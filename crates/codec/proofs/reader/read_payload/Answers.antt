@@ -1,4 +1,4 @@
-use Rattle.std.proofs.Common.{cond, [], ◌∷◌, ◌++◌, map, take, sym, ap, ◌∙◌, arith, length-set}
+use Rattle.std.proofs.Common.{[], ◌∷◌, ◌++◌, map, take, sym, ap, ◌∙◌, arith, length-set}
 use Rattle.std.proofs.lemmas.List.{take_more_set, map_more}
 use Rattle.std.proofs.lemmas.Bool.{cond-false}
 use Rattle.frames.specs.Answers.{refuses, or_refuse}

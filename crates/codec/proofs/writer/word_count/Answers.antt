@@ -1,4 +1,4 @@
-use Rattle.std.proofs.Common.{sym, ap, ◌∙◌, arith}
+use Rattle.std.proofs.Common.{ap, arith}
 use Rattle.codec.specs.Layout.{kind_of}
 use Rattle.codec.specs.Reading.{count_after}
 use Rattle.codec.proofs.Counts.{fields-counted, count-few}

@@ -6,5 +6,5 @@ returns g c =
     let p = g.P.PayloadText in
     record {
       text = c.spell.ensures;
-      reads-back = frame-respelled p.spelling p.spelled g.met.P.PayloadText.respelled c.args.frame;
+      reads_back = frame-respelled p.spelling p.spelled g.met.P.PayloadText.respelled c.args.frame;
     }
