@@ -10,7 +10,7 @@ use channels::wild::Wild;
 
 // Puts two frames, in order.
 pub fn put_two<F: Copy, C: Channel<F>>(channel: &mut C, first: F, second: F)
-    ensures { FoldsTo puts channel.old (first ∷ second ∷ []) channel.new }
+    ensures { FoldsTo C.puts channel.old (first ∷ second ∷ []) channel.new }
 {
     channel.put(first);
     channel.put(second);
@@ -22,8 +22,8 @@ pub(crate) fn put_two_take_one<F: Copy, C: Channel<F>>(
     first: F,
     second: F,
 ) -> Option<F>
-    ensures calls { (m : C) × (FoldsTo puts channel.old (first ∷ second ∷ []) m) × takes m result channel.new }
-    ensures given { waits channel.old ≡ [] → IfSome result (λ f. (first ≡ f) ⊎ (second ≡ f)) }
+    ensures calls { (m : C) × (FoldsTo C.puts channel.old (first ∷ second ∷ []) m) × C.takes m result channel.new }
+    ensures given { C.waits channel.old ≡ [] → IfSome result (λ f. (first ≡ f) ⊎ (second ≡ f)) }
 {
     put_two(channel, first, second);
     channel.take()

@@ -40,7 +40,7 @@ fn follow<P: PayloadText + Comparable>(
 }
 
 fn main(rt: HostRuntime) -> io::Result<()> {
-    let mut session = Session::new(rt);
+    let mut session = Session::new(rt)?;
     let mut kind = PayloadKind::Line;
     let mut pile = None;
     for _ in 0..u64::MAX {

@@ -17,12 +17,13 @@ pub struct Session {
 
 impl Session {
     // A session before its first line.
-    pub fn new(rt: HostRuntime) -> Session {
-        Session {
+    pub fn new(rt: HostRuntime) -> io::Result<Session> {
+        let lines = BufReader::new(rt.alloc(), rt.stdin())?.lines(rt.alloc());
+        Ok(Session {
             rt,
-            lines: BufReader::new(rt.stdin()).lines(rt.alloc()),
+            lines,
             number: 0,
-        }
+        })
     }
 
     // What the session allocates by.

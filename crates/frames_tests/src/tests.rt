@@ -89,12 +89,15 @@ fn stamp_in_a_longer_run(rt: HostRuntime) -> Result<(), Fail> {
     );
     let mut run = [0xeeee_eeee; 9];
     assert_eq!(rt; write_frame(frame, &mut run)?, 7);
-    assert_eq!(rt; &run[0..3], &[0x3060_7006, 0x8000_0009, 0x9000_0008]);
+    assert_eq!(rt;
+        &run[0..3],
+        [0x3060_7006, 0x8000_0009, 0x9000_0008].as_slice()
+    );
     assert_eq!(rt;
         &run[3..7],
-        &[0xc123_4567, 0xc89a_bcde, 0xcf00_1122, 0xc334_4556]
+        [0xc123_4567, 0xc89a_bcde, 0xcf00_1122, 0xc334_4556].as_slice()
     );
-    assert_eq!(rt; &run[7..9], &[0xeeee_eeee, 0xeeee_eeee]);
+    assert_eq!(rt; &run[7..9], [0xeeee_eeee, 0xeeee_eeee].as_slice());
     assert_eq!(rt; read_frame::<Stamp>(&run)?, (frame, 7));
     Ok(())
 }
