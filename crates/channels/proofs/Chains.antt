@@ -15,21 +15,21 @@ module _ {C F : Type 0} (puts : C → F → C → Type 0) (fs : List F) where
   abbrev pub ChainedPast : Type 0
   ChainedPast = (i : ℕ) (c : C) → length fs ≤ i → FoldsTo puts c (drop i fs) c
 
-  pub chained-from : ChainedFrom
-  chained-from i f c m d within read put rest =
+  pub chained_from : ChainedFrom
+  chained_from i f c m d within read put rest =
       let front : f ∷ drop (i + 1) fs ≡ drop i fs = ap (λ x. x ∷ drop (i + 1) fs) read ∙ sym (drop_more fs i f within) in
       subst (λ l. FoldsTo puts c l d) front (m, put, rest)
 
-  pub chained-past : ChainedPast
-  chained-past i c past = subst (λ l. FoldsTo puts c l c) (sym (drop_all i fs past)) refl
+  pub chained_past : ChainedPast
+  chained_past i c past = subst (λ l. FoldsTo puts c l c) (sym (drop_all i fs past)) refl
 
 -- What waits after several puts waited before or was put.
-pub chained-adds : {C F : Type 0} {waits : C → List F} {puts : C → F → C → Type 0} {takes : C → Option F → C → Type 0} → Lawful waits puts takes
+pub chained_adds : {C F : Type 0} {waits : C → List F} {puts : C → F → C → Type 0} {takes : C → Option F → C → Type 0} → Lawful waits puts takes
     → (fs : List F) (c d : C) → FoldsTo puts c fs d → (g : F) → ContainsAt (waits d) g → ContainsAt (waits c) g ⊎ ContainsAt fs g
-chained-adds {waits = waits} laws [] c d e g m = inl (subst (λ s. ContainsAt (waits s) g) (sym e) m)
-chained-adds laws (f ∷ fs) c d p g m =
-    ⊎_elim (λ k. ⊎_elim inl (λ e. inr (has_append_left (f ∷ []) fs g (subst (ContainsAt (f ∷ [])) e (has_push [] f)))) (laws.put-adds c f p.0 p.1 g k))
-    (λ k. inr (has_append_right (f ∷ []) fs g k)) (chained-adds laws fs p.0 d p.2 g m)
+chained_adds {waits = waits} laws [] c d e g m = inl (subst (λ s. ContainsAt (waits s) g) (sym e) m)
+chained_adds laws (f ∷ fs) c d p g m =
+    ⊎_elim (λ k. ⊎_elim inl (λ e. inr (has_append_left (f ∷ []) fs g (subst (ContainsAt (f ∷ [])) e (has_push [] f)))) (laws.put_adds c f p.0 p.1 g k))
+    (λ k. inr (has_append_right (f ∷ []) fs g k)) (chained_adds laws fs p.0 d p.2 g m)
 
 -- a count above the length stands for it
 pub take_min : {F : Type 0} (n k : ℕ) (fs : List F) → k ≡ min n (length fs) → take k fs ≡ take n fs

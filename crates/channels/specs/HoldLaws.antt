@@ -9,14 +9,14 @@ use Rattle.channels.specs.declared.holding.Holding.{Holding}
 
 module _ {F : Type 0} where
   -- a frame in front of the held one
-  has-before : (fs : List F) (o : Option F) (g : F) → ContainsAt fs g → ContainsAt (with_held fs o) g
-  has-before fs None g m = m
-  has-before fs (Some h) g m = has_append_left fs (h ∷ []) g m
+  has_before : (fs : List F) (o : Option F) (g : F) → ContainsAt fs g → ContainsAt (with_held fs o) g
+  has_before fs None g m = m
+  has_before fs (Some h) g m = has_append_left fs (h ∷ []) g m
 
   -- the held one stays
-  has-with : (fs gs : List F) (o : Option F) (g : F) → (ContainsAt fs g → ContainsAt gs g) → ContainsAt (with_held fs o) g → ContainsAt (with_held gs o) g
-  has-with fs gs None g k m = k m
-  has-with fs gs (Some h) g k m =
+  has_with : (fs gs : List F) (o : Option F) (g : F) → (ContainsAt fs g → ContainsAt gs g) → ContainsAt (with_held fs o) g → ContainsAt (with_held gs o) g
+  has_with fs gs None g k m = k m
+  has_with fs gs (Some h) g k m =
       ⊎_elim (λ n. has_append_left gs (h ∷ []) g (k n)) (λ e. subst (ContainsAt (gs ++ h ∷ [])) e (has_push gs h)) (has_push_cases fs h g m)
 
   some_is : (f g : F) → Some f ≡ Some g → g ≡ f
@@ -27,7 +27,7 @@ module _ {F : Type 0} where
     passed : (c d : C) (held : Option F) (g : F) → PassesDown puts c held d → ContainsAt (waits d) g → ContainsAt (with_held (waits c) held) g
     passed c d None g e m = subst (λ b. ContainsAt (waits b) g) e m
     passed c d (Some h) g p m =
-        ⊎_elim (has_append_left (waits c) (h ∷ []) g) (λ e. subst (ContainsAt (waits c ++ h ∷ [])) e (has_push (waits c) h)) (below.put-adds c h d p g m)
+        ⊎_elim (has_append_left (waits c) (h ∷ []) g) (λ e. subst (ContainsAt (waits c ++ h ∷ [])) e (has_push (waits c) h)) (below.put_adds c h d p g m)
 
     adds : (c : Holding C F) (f : F) (d : Holding C F) → HoldPuts puts c f d → (g : F) → ContainsAt (hold_waits waits d) g → ContainsAt (hold_waits waits c) g ⊎ (f ≡ g)
     adds c f d p g m =
@@ -38,18 +38,18 @@ module _ {F : Type 0} where
     gives : (c d : C) (found held : Option F) (f : F) (held' : Option F) → takes c found d → HoldGives found held (Some f) held'
         → ContainsAt (with_held (waits c) held) f
     gives c d None held f held' t h = subst (λ o. ContainsAt (with_held (waits c) o) f) h.0 (has_push (waits c) f)
-    gives c d (Some g) held f held' t h = has-before (waits c) held f (subst (ContainsAt (waits c)) (some_is f g h.0) (below.take_gives c g d t))
+    gives c d (Some g) held f held' t h = has_before (waits c) held f (subst (ContainsAt (waits c)) (some_is f g h.0) (below.take_gives c g d t))
 
     leaves : (c d : C) (found held o held' : Option F) (g : F) → takes c found d → HoldGives found held o held'
         → ContainsAt (with_held (waits d) held') g → ContainsAt (with_held (waits c) held) g
     leaves c d None held o held' g t h m =
-        has-before (waits c) held g (below.take-leaves c None d t g (subst (λ x. ContainsAt (with_held (waits d) x) g) h.1 m))
+        has_before (waits c) held g (below.take_leaves c None d t g (subst (λ x. ContainsAt (with_held (waits d) x) g) h.1 m))
     leaves c d (Some f) held o held' g t h m =
-        has-with (waits d) (waits c) held g (below.take-leaves c (Some f) d t g) (subst (λ x. ContainsAt (with_held (waits d) x) g) h.1 m)
+        has_with (waits d) (waits c) held g (below.take_leaves c (Some f) d t g) (subst (λ x. ContainsAt (with_held (waits d) x) g) h.1 m)
 
     pub hold_lawful : Lawful (hold_waits waits) (HoldPuts puts) (HoldTakes takes)
     hold_lawful = record {
-      put-adds = adds;
+      put_adds = adds;
       take_gives = λ c f d t. gives c.below d.below t.found c.held f d.held t.below t.gives;
-      take-leaves = λ c o d t g. leaves c.below d.below t.found c.held o d.held g t.below t.gives;
+      take_leaves = λ c o d t g. leaves c.below d.below t.found c.held o d.held g t.below t.gives;
     }

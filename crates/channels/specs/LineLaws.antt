@@ -23,5 +23,5 @@ module _ {F : Type 0} where
   leaves c None d t g m = subst (λ l. ContainsAt l g) (t.oldest.1 ∙ sym t.oldest.0) m
   leaves c (Some f) d t g m = subst (λ l. ContainsAt l g) (sym t.oldest) (has_append_right (f ∷ []) (line_waits d) g m)
 
-  pub line-lawful : Lawful {C = Line F} {F = F} line_waits LinePuts LineTakes
-  line-lawful = record { put-adds = adds; take_gives = gives; take-leaves = leaves }
+  pub line_lawful : Lawful {C = Line F} {F = F} line_waits LinePuts LineTakes
+  line_lawful = record { put_adds = adds; take_gives = gives; take_leaves = leaves }

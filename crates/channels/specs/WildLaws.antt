@@ -3,5 +3,5 @@ use Rattle.channels.specs.Channels.{Lawful}
 use Rattle.channels.specs.Wilds.{wild_waits, WildPuts, WildTakes}
 use Rattle.channels.specs.declared.wild.Wild.{Wild}
 
-pub wild-lawful : {F : Type 0} → Lawful {C = Wild F} {F = F} wild_waits WildPuts WildTakes
-wild-lawful = record { put-adds = λ c f d p. p.adds.each; take_gives = λ c f d t. t.gives; take-leaves = λ c o d t. t.leaves }
+pub wild_lawful : {F : Type 0} → Lawful {C = Wild F} {F = F} wild_waits WildPuts WildTakes
+wild_lawful = record { put_adds = λ c f d p. p.adds.each; take_gives = λ c f d t. t.gives; take_leaves = λ c o d t. t.leaves }

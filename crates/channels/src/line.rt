@@ -2,7 +2,7 @@
 ghost use Rattle.std.specs.Prelude.{◌≡◌, ℕ, ◌<◌, ◌≤◌, [], length, None};
 ghost use Rattle.std.specs.List.{slice_get};
 ghost use Rattle.channels.specs.Lines.{line_room, line_waits, LinePuts, LineTakes, ReadsAt, WritesAt, OldestAt};
-ghost use Rattle.channels.specs.LineLaws.{line-lawful};
+ghost use Rattle.channels.specs.LineLaws.{line_lawful};
 
 use crate::channel::Channel;
 use crate::look::Look;
@@ -61,7 +61,7 @@ impl<'a, F: Copy> Channel<F> for Line<'a, F> {
 
     ghost takes = { LineTakes };
 
-    ghost lawful = { line-lawful };
+    ghost lawful = { line_lawful };
 
     fn put(&mut self, frame: F)
         ensures { LinePuts self.old frame self.new }

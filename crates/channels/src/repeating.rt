@@ -1,7 +1,7 @@
 // Each frame twice.
 ghost use Rattle.std.specs.Prelude.{◌≡◌};
 ghost use Rattle.channels.specs.Repeats.{repeat_waits, RepeatPuts, RepeatTakes};
-ghost use Rattle.channels.specs.RepeatLaws.{repeat-lawful};
+ghost use Rattle.channels.specs.RepeatLaws.{repeat_lawful};
 
 use crate::channel::Channel;
 use crate::look::Look;
@@ -28,7 +28,7 @@ impl<F: Copy, C: Channel<F>> Channel<F> for Repeating<C> {
 
     ghost takes = { RepeatTakes C.Channel.takes };
 
-    ghost lawful = { repeat-lawful C.Channel.lawful };
+    ghost lawful = { repeat_lawful C.Channel.lawful };
 
     fn put(&mut self, frame: F)
         ensures { RepeatPuts C.Channel.puts self.old frame self.new }

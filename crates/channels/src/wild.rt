@@ -2,7 +2,7 @@
 ghost use Rattle.std.specs.Prelude.{◌≡◌, ℕ, ◌<◌, ◌≤◌, List, [], length, IfSome, Some, None};
 ghost use Rattle.std.specs.List.{ContainsAt, slice_get};
 ghost use Rattle.channels.specs.Wilds.{number_after, AddsOnly, AddsAt, AddsAgainAt, wild_room, wild_waits, WildPuts, WildTakes};
-ghost use Rattle.channels.specs.WildLaws.{wild-lawful};
+ghost use Rattle.channels.specs.WildLaws.{wild_lawful};
 
 use crate::channel::Channel;
 use crate::look::Look;
@@ -123,7 +123,7 @@ impl<'a, F: Copy> Channel<F> for Wild<'a, F> {
 
     ghost takes = { WildTakes };
 
-    ghost lawful = { wild-lawful };
+    ghost lawful = { wild_lawful };
 
     // Of four puts one is lost, and one is made twice.
     fn put(&mut self, frame: F)

@@ -10,16 +10,16 @@ use Rattle.codec.specs.Layout.{kind_of, field_words}
 use Rattle.codec.specs.Reading.{count_after}
 
 -- the words after the head are as many as its kind of frame has
-pub fields-counted : {P : Type 0} (size : ℕ) (words : P → List ℕ) → ((x : P) → length (words x) ≡ size)
+pub fields_counted : {P : Type 0} (size : ℕ) (words : P → List ℕ) → ((x : P) → length (words x) ≡ size)
     → (b : Body P) → length (field_words words b) ≡ count_after size (kind_of b)
-fields-counted size words counted (ReqSlots s n l) = refl
-fields-counted size words counted (Slots s r n) = refl
-fields-counted size words counted (Token s r p) = omega (arith, length-map (words p) (word 12), counted p)
-fields-counted size words counted (Ack s r) = refl
+fields_counted size words counted (ReqSlots s n l) = refl
+fields_counted size words counted (Slots s r n) = refl
+fields_counted size words counted (Token s r p) = omega (arith, length-map (words p) (word 12), counted p)
+fields_counted size words counted (Ack s r) = refl
 
 -- and at most six
-pub count-few : (size : ℕ) → size ≤ 4 → (k : Kind) → count_after size k ≤ 6
-count-few size few kinds.ReqSlots = omega arith
-count-few size few kinds.Slots = omega arith
-count-few size few kinds.Token = omega arith
-count-few size few kinds.Ack = omega arith
+pub count_few : (size : ℕ) → size ≤ 4 → (k : Kind) → count_after size k ≤ 6
+count_few size few kinds.ReqSlots = omega arith
+count_few size few kinds.Slots = omega arith
+count_few size few kinds.Token = omega arith
+count_few size few kinds.Ack = omega arith

@@ -35,10 +35,10 @@ laid_more ws run i within room =
     ∙ ap (λ front. front ++ drop (i + 1) run) (sym (take_more ws i 0 within))
 
 -- Three words over the front of a run, and then `ws`, by way of the part behind the three.
-pub laid-behind : (a b c size : ℕ) (ws run front part : List ℕ) → front ≡ a ∷ b ∷ c ∷ []
+pub laid_behind : (a b c size : ℕ) (ws run front part : List ℕ) → front ≡ a ∷ b ∷ c ∷ []
     → part ≡ ws ++ drop size (take (length (front ++ drop 3 run) - 3) (drop 3 (front ++ drop 3 run)))
     → put_mid 3 (length (front ++ drop 3 run) - 3) (front ++ drop 3 run) part ≡ a ∷ b ∷ c ∷ (ws ++ drop (3 + size) run)
-laid-behind a b c size ws run front part three wrote =
+laid_behind a b c size ws run front part three wrote =
     let rest = drop 3 run in
     let k = length (a ∷ b ∷ c ∷ rest) - 3 in
     let whole : take k rest ≡ rest = take_all k rest (omega arith) in

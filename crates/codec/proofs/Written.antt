@@ -11,8 +11,8 @@ pub record Fits {P : Type 0} (f : Frame P) : Type 0 where
   pub addressee : f.addressee < 256
   pub body : body_fits f.body ≡ true
 
-pub frame-fits : {P : Type 0} (f : Frame P) → frame_fits f ≡ true → Fits f
-frame-fits f fits =
+pub frame_fits_lem : {P : Type 0} (f : Frame P) → frame_fits f ≡ true → Fits f
+frame_fits_lem f fits =
     let a = and_parts (leb f.sender 255) (leb f.addressee 255 && body_fits f.body) fits in
     let b = and_parts (leb f.addressee 255) (body_fits f.body) a.1 in
     record {

@@ -53,8 +53,8 @@ joined-parts v h =
     let fourth : v ≡ v / 2 ^ 28 * 2 ^ 28 + part_of v 0 = omega arith in
     omega arith
 
-pub stamp-back : (x : Stamp) → stamp_reads (stamp_words x) ≡ Some x
-stamp-back x =
+pub stamp_back : (x : Stamp) → stamp_reads (stamp_words x) ≡ Some x
+stamp_back x =
     let v = x.value in
     let n : Narrow (part_of v 84) (part_of v 56) (part_of v 28) (part_of v 0) =
     record { first = omega arith; second = omega arith; third = omega arith; fourth = omega arith } in
@@ -69,17 +69,17 @@ record Parts (v a b c d : ℕ) : Type 0 where
   third : c ≡ part_of v 28
   fourth : d ≡ part_of v 0
 
-parts-joined : (v a b c d : ℕ) → Narrow a b c d → joined a b c d ≡ v → Parts v a b c d
-parts-joined v a b c d n e = record { first = omega arith; second = omega arith; third = omega arith; fourth = omega arith }
+parts_joined : (v a b c d : ℕ) → Narrow a b c d → joined a b c d ≡ v → Parts v a b c d
+parts_joined v a b c d n e = record { first = omega arith; second = omega arith; third = omega arith; fourth = omega arith }
 
-pub stamp-only : (ws : List ℕ) (x : Stamp) → stamp_reads ws ≡ Some x → ws ≡ stamp_words x
-stamp-only [] x e = let z : ◌≡◌ {A = ℕ} 0 1 = cc in absurd (omega arith)
-stamp-only (a ∷ []) x e = let z : ◌≡◌ {A = ℕ} 0 1 = cc in absurd (omega arith)
-stamp-only (a ∷ b ∷ []) x e = let z : ◌≡◌ {A = ℕ} 0 1 = cc in absurd (omega arith)
-stamp-only (a ∷ b ∷ c ∷ []) x e = let z : ◌≡◌ {A = ℕ} 0 1 = cc in absurd (omega arith)
-stamp-only (a ∷ b ∷ c ∷ d ∷ []) x e =
+pub stamp_only : (ws : List ℕ) (x : Stamp) → stamp_reads ws ≡ Some x → ws ≡ stamp_words x
+stamp_only [] x e = let z : ◌≡◌ {A = ℕ} 0 1 = cc in absurd (omega arith)
+stamp_only (a ∷ []) x e = let z : ◌≡◌ {A = ℕ} 0 1 = cc in absurd (omega arith)
+stamp_only (a ∷ b ∷ []) x e = let z : ◌≡◌ {A = ℕ} 0 1 = cc in absurd (omega arith)
+stamp_only (a ∷ b ∷ c ∷ []) x e = let z : ◌≡◌ {A = ℕ} 0 1 = cc in absurd (omega arith)
+stamp_only (a ∷ b ∷ c ∷ d ∷ []) x e =
     let t = under _ (stamp_of (joined a b c d)) x e in
     let value : joined a b c d ≡ x.value = ap (λ (y : Stamp). y.value) (checked-only _ _ x t.1).1 in
-    let p = parts-joined x.value a b c d (narrow a b c d t.0) value in
+    let p = parts_joined x.value a b c d (narrow a b c d t.0) value in
     cc (p.first, p.second, p.third, p.fourth)
-stamp-only (a ∷ b ∷ c ∷ d ∷ f ∷ ws) x e = let z : ◌≡◌ {A = ℕ} 0 1 = cc in absurd (omega arith)
+stamp_only (a ∷ b ∷ c ∷ d ∷ f ∷ ws) x e = let z : ◌≡◌ {A = ℕ} 0 1 = cc in absurd (omega arith)

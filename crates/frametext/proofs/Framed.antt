@@ -10,7 +10,7 @@ use Rattle.frametext.specs.Scan.{first_word, other_words}
 use Rattle.frametext.specs.Told.{Told, tells, unread}
 use Rattle.frametext.specs.Frames.{body_held, Held, body_text, frame_text, kind_in, frame_in}
 use Rattle.frametext.specs.Cuts.{Lacks, before-cut, behind-cut, before-all, behind-none}
-use Rattle.frametext.specs.Digits.{number-back, decimal-lacks}
+use Rattle.frametext.specs.Digits.{number_back, decimal-lacks}
 
 different : (xs ys : List ℕ) → (xs ≡ ys → ⊥) → bytes_eq xs ys ≡ false
 different xs ys apart = go (bytes_eq xs ys) (bytes_eq-Decides xs ys).0
@@ -20,100 +20,100 @@ different xs ys apart = go (bytes_eq xs ys) (bytes_eq-Decides xs ys).0
     go false same = refl
 
 -- a word that names none of the four kinds
-pub other-kind : {P : Type 0} (spelled : List ℕ → Told P) (kind bs : List ℕ) → (kind ≡ codes "REQSLOTS" → ⊥) → (kind ≡ codes "SLOTS" → ⊥)
+pub other_kind : {P : Type 0} (spelled : List ℕ → Told P) (kind bs : List ℕ) → (kind ≡ codes "REQSLOTS" → ⊥) → (kind ≡ codes "SLOTS" → ⊥)
     → (kind ≡ codes "TOKEN" → ⊥) → (kind ≡ codes "ACK" → ⊥) → kind_in spelled kind bs ≡ unread
-other-kind spelled kind bs a b c d =
+other_kind spelled kind bs a b c d =
     rw (different kind (codes "REQSLOTS") a, different kind (codes "SLOTS") b, different kind (codes "TOKEN") c, different kind (codes "ACK") d)
 
-no-space : (n : ℕ) → n < 2 ^ 64 → Lacks 32 (decimal n)
-no-space n held = decimal-lacks 32 n held (λ d. omega (arith, d))
+no_space : (n : ℕ) → n < 2 ^ 64 → Lacks 32 (decimal n)
+no_space n held = decimal-lacks 32 n held (λ d. omega (arith, d))
 
-lacks-append : (c : ℕ) (xs ys : List ℕ) → Lacks c xs → Lacks c ys → Lacks c (xs ++ ys)
-lacks-append c [] ys left right i h e = right i h e
-lacks-append c (x ∷ xs) ys left right zero h e = left 0 (omega arith) e
-lacks-append c (x ∷ xs) ys left right (suc i) h e =
-    lacks-append c xs ys (λ j k d. left (suc j) (omega arith) d) right i (omega arith) e
+Lacks-append : (c : ℕ) (xs ys : List ℕ) → Lacks c xs → Lacks c ys → Lacks c (xs ++ ys)
+Lacks-append c [] ys left right i h e = right i h e
+Lacks-append c (x ∷ xs) ys left right zero h e = left 0 (omega arith) e
+Lacks-append c (x ∷ xs) ys left right (suc i) h e =
+    Lacks-append c xs ys (λ j k d. left (suc j) (omega arith) d) right i (omega arith) e
 
-arrow-no-space : Lacks 32 (codes ">")
-arrow-no-space zero h e = omega arith
-arrow-no-space (suc i) h e = omega arith
+arrow_no_space : Lacks 32 (codes ">")
+arrow_no_space zero h e = omega arith
+arrow_no_space (suc i) h e = omega arith
 
-route-no-space : (a b : ℕ) → a < 2 ^ 32 → b < 2 ^ 32 → Lacks 32 (decimal a ++ (codes ">" ++ decimal b))
-route-no-space a b ha hb =
-    lacks-append 32 (decimal a) (62 ∷ decimal b) (no-space a (omega arith))
-    (lacks-append 32 (62 ∷ []) (decimal b) arrow-no-space (no-space b (omega arith)))
+route_no_space : (a b : ℕ) → a < 2 ^ 32 → b < 2 ^ 32 → Lacks 32 (decimal a ++ (codes ">" ++ decimal b))
+route_no_space a b ha hb =
+    Lacks-append 32 (decimal a) (62 ∷ decimal b) (no_space a (omega arith))
+    (Lacks-append 32 (62 ∷ []) (decimal b) arrow_no_space (no_space b (omega arith)))
 
 module _ {P : Type 0} (spelling : P → List ℕ) (spelled : List ℕ → Told P) (respelled : (x : P) → spelled (spelling x) ≡ tells x) where
   -- the words of a body behind the space, from its kind on
-  words-in : List ℕ → Told (Body P)
-  words-in bs = kind_in spelled (first_word bs) (other_words bs)
+  words_in : List ℕ → Told (Body P)
+  words_in bs = kind_in spelled (first_word bs) (other_words bs)
 
-  body-respelled : (b : Body P) → body_held b → words-in (drop 1 (body_text spelling b)) ≡ tells b
-  unfolding words-in
-  body-respelled (ReqSlots s n l) held =
+  body_respelled : (b : Body P) → body_held b → words_in (drop 1 (body_text spelling b)) ≡ tells b
+  unfolding words_in
+  body_respelled (ReqSlots s n l) held =
       let rest = codes "n=" ++ (decimal n ++ (codes " l=" ++ decimal l)) in
       rw (
-        before-cut 32 (decimal s) rest (no-space s held.0),
-        number-back 64 s held.0 held.0,
-        behind-cut 32 (decimal s) rest (no-space s held.0),
-        before-cut 32 (decimal n) (codes "l=" ++ decimal l) (no-space n held.1),
-        number-back 64 n held.1 held.1,
-        behind-cut 32 (decimal n) (codes "l=" ++ decimal l) (no-space n held.1),
-        before-all 32 (decimal l) (no-space l held.2),
-        number-back 64 l held.2 held.2,
-        behind-none 32 (decimal l) (no-space l held.2),
+        before-cut 32 (decimal s) rest (no_space s held.0),
+        number_back 64 s held.0 held.0,
+        behind-cut 32 (decimal s) rest (no_space s held.0),
+        before-cut 32 (decimal n) (codes "l=" ++ decimal l) (no_space n held.1),
+        number_back 64 n held.1 held.1,
+        behind-cut 32 (decimal n) (codes "l=" ++ decimal l) (no_space n held.1),
+        before-all 32 (decimal l) (no_space l held.2),
+        number_back 64 l held.2 held.2,
+        behind-none 32 (decimal l) (no_space l held.2),
       )
-  body-respelled (Slots s r n) held =
+  body_respelled (Slots s r n) held =
       let rest = codes "r=" ++ (decimal r ++ (codes " n=" ++ decimal n)) in
       rw (
-        before-cut 32 (decimal s) rest (no-space s held.0),
-        number-back 64 s held.0 held.0,
-        behind-cut 32 (decimal s) rest (no-space s held.0),
-        before-cut 32 (decimal r) (codes "n=" ++ decimal n) (no-space r held.1),
-        number-back 64 r held.1 held.1,
-        behind-cut 32 (decimal r) (codes "n=" ++ decimal n) (no-space r held.1),
-        before-all 32 (decimal n) (no-space n held.2),
-        number-back 64 n held.2 held.2,
-        behind-none 32 (decimal n) (no-space n held.2),
+        before-cut 32 (decimal s) rest (no_space s held.0),
+        number_back 64 s held.0 held.0,
+        behind-cut 32 (decimal s) rest (no_space s held.0),
+        before-cut 32 (decimal r) (codes "n=" ++ decimal n) (no_space r held.1),
+        number_back 64 r held.1 held.1,
+        behind-cut 32 (decimal r) (codes "n=" ++ decimal n) (no_space r held.1),
+        before-all 32 (decimal n) (no_space n held.2),
+        number_back 64 n held.2 held.2,
+        behind-none 32 (decimal n) (no_space n held.2),
       )
-  body-respelled (Token s r p) held =
+  body_respelled (Token s r p) held =
       let rest = codes "r=" ++ (decimal r ++ (codes " " ++ spelling p)) in
       rw (
-        before-cut 32 (decimal s) rest (no-space s held.0),
-        number-back 64 s held.0 held.0,
-        behind-cut 32 (decimal s) rest (no-space s held.0),
-        before-cut 32 (decimal r) (spelling p) (no-space r held.1),
-        number-back 64 r held.1 held.1,
-        behind-cut 32 (decimal r) (spelling p) (no-space r held.1),
+        before-cut 32 (decimal s) rest (no_space s held.0),
+        number_back 64 s held.0 held.0,
+        behind-cut 32 (decimal s) rest (no_space s held.0),
+        before-cut 32 (decimal r) (spelling p) (no_space r held.1),
+        number_back 64 r held.1 held.1,
+        behind-cut 32 (decimal r) (spelling p) (no_space r held.1),
         respelled p,
       )
-  body-respelled (Ack s r) held =
+  body_respelled (Ack s r) held =
       rw (
-        before-cut 32 (decimal s) (codes "r=" ++ decimal r) (no-space s held.0),
-        number-back 64 s held.0 held.0,
-        behind-cut 32 (decimal s) (codes "r=" ++ decimal r) (no-space s held.0),
-        before-all 32 (decimal r) (no-space r held.1),
-        number-back 64 r held.1 held.1,
-        behind-none 32 (decimal r) (no-space r held.1),
+        before-cut 32 (decimal s) (codes "r=" ++ decimal r) (no_space s held.0),
+        number_back 64 s held.0 held.0,
+        behind-cut 32 (decimal s) (codes "r=" ++ decimal r) (no_space s held.0),
+        before-all 32 (decimal r) (no_space r held.1),
+        number_back 64 r held.1 held.1,
+        behind-none 32 (decimal r) (no_space r held.1),
       )
 
-  body-spaced : (b : Body P) → body_text spelling b ≡ 32 ∷ drop 1 (body_text spelling b)
-  body-spaced (ReqSlots s n l) = refl
-  body-spaced (Slots s r n) = refl
-  body-spaced (Token s r p) = refl
-  body-spaced (Ack s r) = refl
+  body_spaced : (b : Body P) → body_text spelling b ≡ 32 ∷ drop 1 (body_text spelling b)
+  body_spaced (ReqSlots s n l) = refl
+  body_spaced (Slots s r n) = refl
+  body_spaced (Token s r p) = refl
+  body_spaced (Ack s r) = refl
 
-  pub frame-respelled : (f : Frame P) → Held f → frame_in spelled (frame_text spelling f) ≡ tells f
-  unfolding words-in
-  frame-respelled f held =
+  pub frame_respelled : (f : Frame P) → Held f → frame_in spelled (frame_text spelling f) ≡ tells f
+  unfolding words_in
+  frame_respelled f held =
       let a = f.sender in
       let b = f.addressee in
       let route = decimal a ++ (codes ">" ++ decimal b) in
       let body = drop 1 (body_text spelling f.body) in
       let apart : frame_text spelling f ≡ route ++ (32 ∷ body) =
-      ap (λ bs. decimal a ++ (codes ">" ++ (decimal b ++ bs))) (body-spaced f.body)
+      ap (λ bs. decimal a ++ (codes ">" ++ (decimal b ++ bs))) (body_spaced f.body)
       ∙ sym (append_assoc (decimal a) (codes ">" ++ decimal b) (32 ∷ body)) in
-      let spaceless = route-no-space a b held.0 held.1 in
+      let spaceless = route_no_space a b held.0 held.1 in
       let arrowless = decimal-lacks 62 a (omega (arith, held.0)) (λ d. omega (arith, d)) in
       ap (frame_in spelled) apart
       ∙ rw (
@@ -121,7 +121,7 @@ module _ {P : Type 0} (spelling : P → List ℕ) (spelled : List ℕ → Told P
         behind-cut 32 route body spaceless,
         behind-cut 62 (decimal a) (decimal b) arrowless,
         before-cut 62 (decimal a) (decimal b) arrowless,
-        number-back 32 a held.0 (omega (arith, held.0)),
-        number-back 32 b held.1 (omega (arith, held.1)),
-        body-respelled f.body held.2,
+        number_back 32 a held.0 (omega (arith, held.0)),
+        number_back 32 b held.1 (omega (arith, held.1)),
+        body_respelled f.body held.2,
       )

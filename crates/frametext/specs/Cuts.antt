@@ -56,17 +56,17 @@ stripped-none label bs never = go (stripped label bs) refl
     go (Some rest) e = absurd (never rest (stripped-only label bs rest e))
 
 -- the clause of `strip_prefix` at a text
-pub strip-read : (label bs : List ℕ) (r : Option (Bor (List ℕ)))
+pub strip_read : (label bs : List ℕ) (r : Option (Bor (List ℕ)))
     → MatchOption r (FindsTextPrefix label bs None) (λ x. (n : ℕ) × FindsTextPrefix label bs (Some n) × (x.now ≡ drop n bs) × (length x.now + n ≡ length bs))
     → option_map (λ x. x.now) r ≡ stripped label bs
-strip-read label bs None h = sym (stripped-none label bs h)
-strip-read label bs (Some x) h =
+strip_read label bs None h = sym (stripped-none label bs h)
+strip_read label bs (Some x) h =
     sym (ap (stripped label) h.1.1 ∙ stripped-front label (drop h.0 bs) ∙ ap Some (sym h.2))
 
 -- the clause of `split_once` at an ASCII byte
-pub cut-read : (c : ℕ) (bs : List ℕ) (r : Option (Bor (List ℕ) × Bor (List ℕ))) → IsSplitOnceResult c bs r → c < 128 → Cut c bs r
-cut-read c bs None h ascii = let lacks = split_parts c bs None h ascii in (before-all c bs lacks, behind-none c bs lacks)
-cut-read c bs (Some x) h ascii =
+pub cut_read : (c : ℕ) (bs : List ℕ) (r : Option (Bor (List ℕ) × Bor (List ℕ))) → IsSplitOnceResult c bs r → c < 128 → Cut c bs r
+cut_read c bs None h ascii = let lacks = split_parts c bs None h ascii in (before-all c bs lacks, behind-none c bs lacks)
+cut_read c bs (Some x) h ascii =
     let p = split_parts c bs (Some x) h ascii in (
       sym (ap (before c) p.0 ∙ before-cut c x.0.now x.1.now p.1),
       ap (behind c) p.0 ∙ behind-cut c x.0.now x.1.now p.1,

@@ -10,11 +10,11 @@ use Rattle.payloads.specs.declared.sort.Sort.{Sort}
 use Rattle.payloads.specs.declared.sort.Sort.TheVariants.{AlarmPressed, DoorFault, Stopped}
 use Rattle.payloads.specs.Ranges.{sort_fits}
 use Rattle.payloads.specs.LineLaws.{line_of-parts}
-use Rattle.payloads.specs.EventLaws.{event_of-parts, in-range}
+use Rattle.payloads.specs.EventLaws.{event_of-parts, in_range}
 use Rattle.frametext.specs.Told.{tells}
 use Rattle.frametext.specs.Payloads.{line_text, line_in, sort_text, sort_in, event_text, event_in}
 use Rattle.frametext.specs.Cuts.{Lacks, before-cut, behind-cut}
-use Rattle.frametext.specs.Digits.{number-back, signed_back, decimal-lacks}
+use Rattle.frametext.specs.Digits.{number_back, signed_back, decimal-lacks}
 
 -- a number in range fits 32 bits
 within32 : (a b : ℕ) (z : ℤ) → (int_le (negsuc a) z && int_le z (pos b)) ≡ true → a < 2 ^ 31 → b < 2 ^ 31 → FitsSigned w32 z
@@ -23,46 +23,46 @@ within32 a b (negsuc n) e low high =
     record { sfits = omega (arith, leb-true n a (and_parts (int_le (negsuc a) (negsuc n)) (int_le (negsuc n) (pos b)) e).0) }
 
 -- a written number has no space
-lacks-space : (n : ℕ) → n < 2 ^ 32 → Lacks 32 (decimal n)
-lacks-space n small = decimal-lacks 32 n (omega arith) (λ d. omega (arith, d))
+lacks_space : (n : ℕ) → n < 2 ^ 32 → Lacks 32 (decimal n)
+lacks_space n small = decimal-lacks 32 n (omega arith) (λ d. omega (arith, d))
 
-pub line-respelled : (x : ProfileLine) → line_in (line_text x) ≡ tells x
-line-respelled x =
+pub line_respelled : (x : ProfileLine) → line_in (line_text x) ≡ tells x
+line_respelled x =
     let p = and_parts (nat_le x.place 1023) (int_le (negsuc 32767) x.step && int_le x.step (pos 32767)) x.fits in
     let small : x.place < 2 ^ 32 = omega (arith, leb-true x.place 1023 p.0) in
     let fits = within32 32767 32767 x.step p.1 (omega arith) (omega arith) in
     let rest = codes "step=" ++ signed_decimal x.step in
     rw (
-      before-cut 32 (decimal x.place) rest (lacks-space x.place small),
-      number-back 32 x.place small (omega arith),
-      behind-cut 32 (decimal x.place) rest (lacks-space x.place small),
+      before-cut 32 (decimal x.place) rest (lacks_space x.place small),
+      number_back 32 x.place small (omega arith),
+      behind-cut 32 (decimal x.place) rest (lacks_space x.place small),
       signed_back x.step fits,
       line_of-parts x,
     )
 
 -- a sort in range is told by its text, which begins with a space
-sort-respelled : (s : Sort) → sort_fits s ≡ true → sort_in (drop 1 (sort_text s)) ≡ tells s
-sort-respelled AlarmPressed fits = refl
-sort-respelled (DoorFault code) fits =
+sort_respelled : (s : Sort) → sort_fits s ≡ true → sort_in (drop 1 (sort_text s)) ≡ tells s
+sort_respelled AlarmPressed fits = refl
+sort_respelled (DoorFault code) fits =
     let top = leb-true code 255 (and_parts (nat_le 1 code) (nat_le code 255) fits).1 in
-    rw (number-back 32 code (omega arith) (omega arith))
-sort-respelled (Stopped floor) fits = rw (signed_back floor (within32 63 191 floor fits (omega arith) (omega arith)))
+    rw (number_back 32 code (omega arith) (omega arith))
+sort_respelled (Stopped floor) fits = rw (signed_back floor (within32 63 191 floor fits (omega arith) (omega arith)))
 
-sort-spaced : (s : Sort) → sort_text s ≡ 32 ∷ drop 1 (sort_text s)
-sort-spaced AlarmPressed = refl
-sort-spaced (DoorFault code) = refl
-sort-spaced (Stopped floor) = refl
+sort_spaced : (s : Sort) → sort_text s ≡ 32 ∷ drop 1 (sort_text s)
+sort_spaced AlarmPressed = refl
+sort_spaced (DoorFault code) = refl
+sort_spaced (Stopped floor) = refl
 
-pub event-respelled : (x : LiftEvent) → event_in (event_text x) ≡ tells x
-event-respelled x =
-    let r = in-range x in
+pub event_respelled : (x : LiftEvent) → event_in (event_text x) ≡ tells x
+event_respelled x =
+    let r = in_range x in
     let small : x.lift < 2 ^ 32 = omega (arith, r.lift) in
     let rest = drop 1 (sort_text x.sort) in
-    ap (λ bs. event_in (codes "lift=" ++ (decimal x.lift ++ bs))) (sort-spaced x.sort)
+    ap (λ bs. event_in (codes "lift=" ++ (decimal x.lift ++ bs))) (sort_spaced x.sort)
     ∙ rw (
-      before-cut 32 (decimal x.lift) rest (lacks-space x.lift small),
-      number-back 32 x.lift small (omega arith),
-      behind-cut 32 (decimal x.lift) rest (lacks-space x.lift small),
-      sort-respelled x.sort r.sort,
+      before-cut 32 (decimal x.lift) rest (lacks_space x.lift small),
+      number_back 32 x.lift small (omega arith),
+      behind-cut 32 (decimal x.lift) rest (lacks_space x.lift small),
+      sort_respelled x.sort r.sort,
       event_of-parts x,
     )

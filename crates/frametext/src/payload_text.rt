@@ -5,7 +5,7 @@ ghost use Rattle.payloads.specs.Events.{event_of};
 ghost use Rattle.payloads.specs.Lines.{line_of};
 ghost use Rattle.frametext.specs.Told.{Told, told, tells, or_no_payload};
 ghost use Rattle.frametext.specs.Payloads.{parts_text, line_text, line_in, sort_in, happening_text, event_text, event_in};
-ghost use Rattle.frametext.specs.Spelled.{line-respelled, event-respelled};
+ghost use Rattle.frametext.specs.Spelled.{line_respelled, event_respelled};
 
 use crate::fault::{Expected, Fault, Label};
 use crate::scan::{next_word, short_field, short_number, signed_field, signed_number, strip};
@@ -58,7 +58,7 @@ impl PayloadText for ProfileLine {
 
     ghost spelled = { line_in };
 
-    ghost respelled = { line-respelled };
+    ghost respelled = { line_respelled };
 
     fn show(self, heap: Global) -> Result<String, AllocError> {
         show_parts(self.place(), self.step(), heap)
@@ -124,7 +124,7 @@ impl PayloadText for LiftEvent {
 
     ghost spelled = { event_in };
 
-    ghost respelled = { event-respelled };
+    ghost respelled = { event_respelled };
 
     fn show(self, heap: Global) -> Result<String, AllocError> {
         show_happening(self.lift(), self.sort(), heap)

@@ -21,8 +21,8 @@ pub record InRange (x : ProfileLine) : Type 0 where
   pub high : x.step ≤ℤ pos 32767
   pub raised : raised 32768 x.step < 65536
 
-pub in-range : (x : ProfileLine) → InRange x
-in-range x =
+pub in_range : (x : ProfileLine) → InRange x
+in_range x =
     let p = and_parts (nat_le x.place 1023) (int_le (negsuc 32767) x.step && int_le x.step (pos 32767)) x.fits in
     let q = and_parts (int_le (negsuc 32767) x.step) (int_le x.step (pos 32767)) p.1 in
     let a : int_le (negsuc 32767) x.step ≡ true = q.0 in
@@ -34,21 +34,21 @@ in-range x =
       raised = omega (arith, ints);
     }
 
-pub line-back : (x : ProfileLine) → line_reads (line_words x) ≡ Some x
-line-back x =
-    let r = in-range x in
+pub line_back : (x : ProfileLine) → line_reads (line_words x) ≡ Some x
+line_back x =
+    let r = in_range x in
     let n = raised 32768 x.step in
     ap (λ p. line_of p (lowered 32768 ((x.place * 2 ^ 16 + n) % 2 ^ 16))) (div-mul-add x.place (2 ^ 16) n r.raised)
     ∙ ap (λ m. line_of x.place (lowered 32768 m)) (mod-mul-add x.place (2 ^ 16) n r.raised)
     ∙ ap (line_of x.place) (lowered-raised 32768 x.step r.low)
     ∙ line_of-parts x
 
-pub line-only : (ws : List ℕ) (x : ProfileLine) → line_reads ws ≡ Some x → ws ≡ line_words x
-line-only [] x e = let z : ◌≡◌ {A = ℕ} 0 1 = cc in absurd (omega arith)
-line-only (w ∷ []) x e =
+pub line_only : (ws : List ℕ) (x : ProfileLine) → line_reads ws ≡ Some x → ws ≡ line_words x
+line_only [] x e = let z : ◌≡◌ {A = ℕ} 0 1 = cc in absurd (omega arith)
+line_only (w ∷ []) x e =
     let p = checked-only _ _ x e in
     let place : x.place ≡ w / 2 ^ 16 = sym (ap (λ (y : ProfileLine). y.place) p.1) in
     let step : x.step ≡ lowered 32768 (w % 2 ^ 16) = sym (ap (λ (y : ProfileLine). y.step) p.1) in
     let low = ap (raised 32768) step ∙ raised-lowered 32768 (w % 2 ^ 16) in
     ap (λ v. v ∷ []) (omega (arith, place, low))
-line-only (w ∷ v ∷ ws) x e = let z : ◌≡◌ {A = ℕ} 0 1 = cc in absurd (omega arith)
+line_only (w ∷ v ∷ ws) x e = let z : ◌≡◌ {A = ℕ} 0 1 = cc in absurd (omega arith)

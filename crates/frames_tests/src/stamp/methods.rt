@@ -2,7 +2,7 @@
 ghost use Rattle.std.specs.Prelude.{◌≡◌, ◌<◌};
 ghost use Rattle.frames.specs.Answers.{answer, or_refuse};
 ghost use Rattle.frames_tests.specs.Stamps.{stamp_of, stamp_by, part_of, stamp_words, stamp_reads};
-ghost use Rattle.frames_tests.specs.StampLaws.{stamp-back, stamp-only};
+ghost use Rattle.frames_tests.specs.StampLaws.{stamp_back, stamp_only};
 ghost use Rattle.std.proofs.Common.{rules, arith};
 
 use crate::stamp::Stamp;
@@ -79,9 +79,9 @@ impl Payload for Stamp {
 
     ghost narrow = { first_of (Prim.search rules, Prim.grind (arith, Self.row.coded.inj)) };
 
-    ghost back = { stamp-back };
+    ghost back = { stamp_back };
 
-    ghost only = { stamp-only };
+    ghost only = { stamp_only };
 
     fn count() -> usize {
         4

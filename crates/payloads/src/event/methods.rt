@@ -3,7 +3,7 @@ ghost use Rattle.std.specs.Prelude.{◌≡◌, ◌/◌, ◌%◌, ◌^◌, ◌<�
 ghost use Rattle.frames.specs.Answers.{answer, or_refuse};
 ghost use Rattle.payloads.specs.Ranges.{sort_fits, event_fits};
 ghost use Rattle.payloads.specs.Events.{event_of, sort_code, sort_detail, sort_of, event_by, event_words, event_reads};
-ghost use Rattle.payloads.specs.EventLaws.{event-back, event-only};
+ghost use Rattle.payloads.specs.EventLaws.{event_back, event_only};
 ghost use Rattle.std.proofs.Common.{rules, arith};
 
 use crate::event::LiftEvent;
@@ -142,9 +142,9 @@ impl Payload for LiftEvent {
 
     ghost narrow = { first_of (Prim.search rules, Prim.grind (arith, Self.row.coded.inj)) };
 
-    ghost back = { event-back };
+    ghost back = { event_back };
 
-    ghost only = { event-only };
+    ghost only = { event_only };
 
     fn count() -> usize {
         2

@@ -3,7 +3,7 @@ ghost use Rattle.std.specs.Prelude.{◌≡◌};
 ghost use Rattle.frames.specs.Answers.{answer, or_refuse};
 ghost use Rattle.payloads.specs.Ranges.{line_fits};
 ghost use Rattle.payloads.specs.Lines.{line_of, line_words, line_reads};
-ghost use Rattle.payloads.specs.LineLaws.{line-back, line-only};
+ghost use Rattle.payloads.specs.LineLaws.{line_back, line_only};
 ghost use Rattle.std.proofs.Common.{rules, arith};
 
 use crate::line::ProfileLine;
@@ -71,9 +71,9 @@ impl Payload for ProfileLine {
 
     ghost narrow = { first_of (Prim.search rules, Prim.grind (arith, Self.row.coded.inj)) };
 
-    ghost back = { line-back };
+    ghost back = { line_back };
 
-    ghost only = { line-only };
+    ghost only = { line_only };
 
     fn count() -> usize {
         1

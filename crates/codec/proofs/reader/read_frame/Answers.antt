@@ -3,7 +3,7 @@ use Rattle.std.proofs.Common.{◌≡◌, sym, ◌∙◌, rules}
 use Rattle.std.proofs.lemmas.Slice.{first_rest}
 use Rattle.frames.specs.Answers.{answer}
 use Rattle.codec.specs.Reading.{frame_at}
-use Rattle.codec.proofs.WriteBack.{written_back, used-within}
+use Rattle.codec.proofs.WriteBack.{written_back, used_within}
 use Rattle.codec.proofs.reader.read_frame.Goals as goal
 
 pub returns : goal.returns
@@ -14,6 +14,6 @@ returns g c =
     let told : answer c.read_after.result ≡ frame_at p.size p.reads run = search (rules, first_rest) in
     record {
       told = told;
-      within = used-within p.size p.words p.reads laws.only run c.read_after.result told;
+      within = used_within p.size p.words p.reads laws.only run c.read_after.result told;
       writes_back = λ f n e. written_back p.size p.words p.reads laws.only run f n (sym told ∙ e);
     }

@@ -4,8 +4,8 @@ use Rattle.frames.specs.Answers.{gives}
 use Rattle.codec.specs.Words.{head_word, kind_code}
 use Rattle.codec.specs.Layout.{kind_of, field_words, frame_words}
 use Rattle.codec.specs.Reading.{count_after, frame_at}
-use Rattle.codec.proofs.Counts.{fields-counted}
-use Rattle.codec.proofs.Written.{frame-fits, gives_same, writes-fitting}
+use Rattle.codec.proofs.Counts.{fields_counted}
+use Rattle.codec.proofs.Written.{frame_fits_lem, gives_same, writes-fitting}
 use Rattle.codec.proofs.ReadBack.{frame_back}
 use Rattle.codec.proofs.writer.write_frame.Goals as goal
 
@@ -13,8 +13,8 @@ pub put_words-requires : goal.put_words-requires
 put_words-requires g c =
     let p = g.P.Payload in
     let f = c.args.frame in
-    let counted = fields-counted p.size p.words g.met.P.Payload.counted f.body in
-    ((frame-fits f (sym c.if-not-frame_fits.ensures)).body, omega arith)
+    let counted = fields_counted p.size p.words g.met.P.Payload.counted f.body in
+    ((frame_fits_lem f (sym c.if-not-frame_fits.ensures)).body, omega arith)
 
 pub returns : goal.returns
 returns g c =
@@ -26,7 +26,7 @@ returns g c =
     let fields = field_words p.words f.body in
     let fits = sym c.if-not-frame_fits.ensures in
     let count = c.word_count-count.ensures.count in
-    let counted = fields-counted p.size p.words laws.counted f.body in
+    let counted = fields_counted p.size p.words laws.counted f.body in
     let long : n - 1 ≡ length fields = omega arith in
     let whole : count_after p.size (kind_of f.body) + 1 ≡ n = omega arith in
     let head = c.head_of.ensures ∙ ap (head_word (kind_code (kind_of f.body)) f.sender f.addressee) long in

@@ -1,5 +1,5 @@
 use Rattle.std.proofs.Common.{◌≡◌, ◌+◌, ◌-◌, ◌<◌, length, refl, inl, inr, arith}
-use Rattle.channels.proofs.Places.{Starts, place-reads, place-writes, place-oldest}
+use Rattle.channels.proofs.Places.{Starts, place_reads, place_writes, place_oldest}
 use Rattle.channels.proofs.line.Line.place.Goals as goal
 use Rattle.channels.proofs.line.Line.place.Goals.{then-self-len, else-self-len}
 
@@ -18,9 +18,9 @@ returns-then-i-rest g c =
     let within : s + i < length t = omega arith in
     record {
       within = within;
-      reads = place-reads t l.head s l.count i (s + i) start room within (inl refl);
-      writes = place-writes t l.head s l.count i (s + i) start room within (inl refl);
-      oldest = place-oldest t l.head s l.count i (s + i) start room within (inl refl);
+      reads = place_reads t l.head s l.count i (s + i) start room within (inl refl);
+      writes = place_writes t l.head s l.count i (s + i) start room within (inl refl);
+      oldest = place_oldest t l.head s l.count i (s + i) start room within (inl refl);
     }
 
 pub returns-else-i-rest : goal.returns-else-i-rest
@@ -40,7 +40,7 @@ returns-else-i-rest g c =
     let round : length t + r ≡ s + i = omega arith in
     record {
       within = within;
-      reads = place-reads t l.head s l.count i r start room within (inr round);
-      writes = place-writes t l.head s l.count i r start room within (inr round);
-      oldest = place-oldest t l.head s l.count i r start room within (inr round);
+      reads = place_reads t l.head s l.count i r start room within (inr round);
+      writes = place_writes t l.head s l.count i r start room within (inr round);
+      oldest = place_oldest t l.head s l.count i r start room within (inr round);
     }

@@ -1,5 +1,5 @@
 use Rattle.std.proofs.Common.{refl, arith, length-set}
-use Rattle.channels.proofs.Fronts.{front-removed}
+use Rattle.channels.proofs.Fronts.{front_removed}
 use Rattle.channels.proofs.wild.Wild.remove.Goals as goal
 
 pub returns : goal.returns
@@ -9,5 +9,5 @@ returns g c =
     record {
       number = refl {a = w.number};
       room = length-set w.table.now c.args.at _;
-      leaves = λ x m. front-removed _ w.count c.args.at w.table.now _ x all (omega (arith, c.requires.among, all)) m;
+      leaves = λ x m. front_removed _ w.count c.args.at w.table.now _ x all (omega (arith, c.requires.among, all)) m;
     }
