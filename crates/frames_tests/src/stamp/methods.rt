@@ -3,7 +3,7 @@ ghost use Rattle.std.specs.Prelude.{◌≡◌, ◌<◌};
 ghost use Rattle.frames.specs.Answers.{answer, or_refuse};
 ghost use Rattle.frames_tests.specs.Stamps.{stamp_of, stamp_by, part_of, stamp_words, stamp_reads};
 ghost use Rattle.frames_tests.specs.StampLaws.{stamp_back, stamp_only};
-ghost use Rattle.std.proofs.Common.{rules, arith};
+ghost use Rattle.std.proofs.Common.{rules};
 
 use crate::stamp::Stamp;
 use frames::payload::Payload;
@@ -71,13 +71,13 @@ impl Payload for Stamp {
 
     ghost reads = { stamp_reads };
 
-    ghost some = { first_of (Prim.search rules, Prim.grind (arith, Self.row.coded.inj)) };
+    ghost some = { Prim.search rules };
 
-    ghost few = { first_of (Prim.search rules, Prim.grind (arith, Self.row.coded.inj)) };
+    ghost few = { Prim.search rules };
 
-    ghost counted = { first_of (Prim.search rules, Prim.grind (arith, Self.row.coded.inj)) };
+    ghost counted = { Prim.search rules };
 
-    ghost narrow = { first_of (Prim.search rules, Prim.grind (arith, Self.row.coded.inj)) };
+    ghost narrow = { Prim.search rules };
 
     ghost back = { stamp_back };
 

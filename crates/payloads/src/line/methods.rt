@@ -4,7 +4,7 @@ ghost use Rattle.frames.specs.Answers.{answer, or_refuse};
 ghost use Rattle.payloads.specs.Ranges.{line_fits};
 ghost use Rattle.payloads.specs.Lines.{line_of, line_words, line_reads};
 ghost use Rattle.payloads.specs.LineLaws.{line_back, line_only};
-ghost use Rattle.std.proofs.Common.{rules, arith};
+ghost use Rattle.std.proofs.Common.{rules};
 
 use crate::line::ProfileLine;
 use crate::parts::{halves, high_half, low_half, lower, raise};
@@ -63,13 +63,13 @@ impl Payload for ProfileLine {
 
     ghost reads = { line_reads };
 
-    ghost some = { first_of (Prim.search rules, Prim.grind (arith, Self.row.coded.inj)) };
+    ghost some = { Prim.search rules };
 
-    ghost few = { first_of (Prim.search rules, Prim.grind (arith, Self.row.coded.inj)) };
+    ghost few = { Prim.search rules };
 
-    ghost counted = { first_of (Prim.search rules, Prim.grind (arith, Self.row.coded.inj)) };
+    ghost counted = { Prim.search rules };
 
-    ghost narrow = { first_of (Prim.search rules, Prim.grind (arith, Self.row.coded.inj)) };
+    ghost narrow = { Prim.search rules };
 
     ghost back = { line_back };
 
