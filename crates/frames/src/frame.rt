@@ -1,4 +1,8 @@
 // What goes over a channel.
+ghost use Rattle.std.specs.Prelude.{◌≡◌};
+ghost use Rattle.frames.specs.Texts.{body_shown, frame_shown};
+
+use std::fmt;
 
 // The last clock, 2^28 - 1, which is also the largest field that a word can hold.
 pub const LAST_CLOCK: u64 = 0x0fff_ffff;
@@ -22,4 +26,27 @@ pub struct Frame<P> {
     pub sender: u32,
     pub addressee: u32,
     pub body: Body<P>,
+}
+
+// As `ACK s=1 r=2`.
+impl<P: fmt::Display> fmt::Display for Body<P> {
+    ghost output = { body_shown P.output };
+
+    fn fmt<W: fmt::Write>(&self, f: &mut fmt::Formatter<W>) -> fmt::Result {
+        match self {
+            Body::ReqSlots { s, n, l } => write!(f, "REQSLOTS s={s} n={n} l={l}"),
+            Body::Slots { s, r, n } => write!(f, "SLOTS s={s} r={r} n={n}"),
+            Body::Token { s, r, payload } => write!(f, "TOKEN s={s} r={r} {payload}"),
+            Body::Ack { s, r } => write!(f, "ACK s={s} r={r}"),
+        }
+    }
+}
+
+// As `0>1 ACK s=1 r=2`.
+impl<P: fmt::Display> fmt::Display for Frame<P> {
+    ghost output = { frame_shown P.output };
+
+    fn fmt<W: fmt::Write>(&self, f: &mut fmt::Formatter<W>) -> fmt::Result {
+        write!(f, "{}>{} {}", self.sender, self.addressee, self.body)
+    }
 }

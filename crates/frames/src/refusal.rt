@@ -1,6 +1,10 @@
 // Why a call says no.
-ghost use Rattle.std.specs.Prelude.{◌≡◌};
+ghost use Rattle.std.specs.Prelude.{◌≡◌, Some};
 ghost use Rattle.frames.specs.Answers.{number_of};
+ghost use Rattle.frames.specs.Texts.{name_of, refusal_text};
+
+use std::error::Error;
+use std::fmt;
 
 // Every refusal of the engine. A call that several refusals meet gives the one with the lowest number.
 #[derive(Clone, Copy, PartialEq, Eq, Debug)]
@@ -54,4 +58,43 @@ impl Refusal {
     {
         self as u8
     }
+
+    // The name of the refusal.
+    fn name(self) -> &'static str
+        ensures { result.now ≡ name_of self }
+    {
+        match self {
+            Refusal::OwnNumber => "OwnNumber",
+            Refusal::AheadCount => "AheadCount",
+            Refusal::CellCount => "CellCount",
+            Refusal::Peer => "Peer",
+            Refusal::Addressee => "Addressee",
+            Refusal::PastLastClock => "PastLastClock",
+            Refusal::RequestWindow => "RequestWindow",
+            Refusal::SlotsWindow => "SlotsWindow",
+            Refusal::SlotsClock => "SlotsClock",
+            Refusal::ClockSpent => "ClockSpent",
+            Refusal::WindowFull => "WindowFull",
+            Refusal::EmptyRun => "EmptyRun",
+            Refusal::HeadKind => "HeadKind",
+            Refusal::HeadCount => "HeadCount",
+            Refusal::ShortRun => "ShortRun",
+            Refusal::WordKind => "WordKind",
+            Refusal::PayloadWords => "PayloadWords",
+            Refusal::TooLarge => "TooLarge",
+            Refusal::NoRoom => "NoRoom",
+            Refusal::PartRange => "PartRange",
+        }
+    }
 }
+
+// As `16 WordKind`.
+impl fmt::Display for Refusal {
+    ghost output = { λ e. Some (refusal_text e) };
+
+    fn fmt<W: fmt::Write>(&self, f: &mut fmt::Formatter<W>) -> fmt::Result {
+        write!(f, "{} {}", self.number(), self.name())
+    }
+}
+
+impl Error for Refusal {}
