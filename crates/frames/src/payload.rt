@@ -7,18 +7,16 @@ use crate::refusal::Refusal;
 
 // A kind of payload: how its values become words of 28 bits, and such words its values.
 pub trait Payload: Copy {
-    // how many words each value takes
-    ghost size: { ℕ };
+    // How many words each value takes, 1 to 4.
+    const SIZE: usize;
+
+    ghost SIZE: { ℕ };
 
     // the words of a value
     ghost words: { Self → List ℕ };
 
     // the value with these words, if there is one
     ghost reads: { List ℕ → Option Self };
-
-    // How many words each value takes, 1 to 4.
-    fn count() -> usize
-        ensures { result ≡ size };
 
     // The word at place `i`, and 0 past the last.
     fn word(self, i: usize) -> u32
@@ -28,11 +26,11 @@ pub trait Payload: Copy {
     fn read(ws: &[u32]) -> Result<Self, Refusal>
         ensures { answer result ≡ or_refuse (reads ws.now) 17 };
 
-    ghost some: { 1 ≤ size };
+    ghost some: { 1 ≤ SIZE };
 
-    ghost few: { size ≤ 4 };
+    ghost few: { SIZE ≤ 4 };
 
-    ghost counted: { (x : Self) → length (words x) ≡ size };
+    ghost counted: { (x : Self) → length (words x) ≡ SIZE };
 
     ghost narrow: { (x : Self) → AllByRecursion (λ w. w < 2 ^ 28) (words x) };
 
