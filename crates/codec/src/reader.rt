@@ -76,6 +76,7 @@ fn read_payload<P: Payload>(ws: &[u32]) -> Result<P, Refusal>
     requires { P.SIZE ≤ length ws.now }
     ensures { answer result ≡ payload_of P.SIZE P.reads ws.now }
 {
+    // Room for the longest kind: an array cannot be as long as a constant of `P`, and there is no heap here.
     let mut values = [0; 4];
     for (i, w) in ws[..P::SIZE].iter().enumerate() {
         if !is_field(*w, Field::Payload) {

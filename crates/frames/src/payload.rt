@@ -18,7 +18,7 @@ pub trait Payload: Copy {
     // the value with these words, if there is one
     ghost reads: { List ℕ → Option Self };
 
-    // The word at place `i`, and 0 past the last.
+    // The word at place `i`, and 0 past the last. One at a time, since an array cannot be as long as a constant of the type.
     fn word(self, i: usize) -> u32
         ensures { result ≡ slice_index (words self) i };
 

@@ -14,7 +14,8 @@ use frames::payload::Payload;
 use frames::refusal::Refusal;
 use std::fmt;
 
-// The numbers of the sorts.
+// The numbers of the sorts, as the first word has them. An enum of them would name the three sorts once more, and is turned into a `Sort` only with a
+// detail, which has to be in range: more than `From` can ask.
 const ALARM_PRESSED: u32 = 1;
 
 const DOOR_FAULT: u32 = 2;
