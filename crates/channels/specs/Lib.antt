@@ -1,6 +1,7 @@
 pub mod Channels
 pub mod Lines
 pub mod LineLaws
+pub mod Numbers
 pub mod Wilds
 pub mod WildLaws
 pub mod Repeats

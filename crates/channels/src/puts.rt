@@ -1,23 +1,17 @@
 // Several frames put into any channel.
-ghost use Rattle.std.specs.Prelude.{◌≡◌, take};
+ghost use Rattle.std.specs.Prelude.{take};
 ghost use Rattle.std.specs.List.{FoldsTo};
 
 use crate::channel::Channel;
 
 // Puts each frame of a slice, in order.
+#[tactic(auto, using(crate::proofs::Chains::chained_from, crate::proofs::Chains::chained_past))]
 pub fn put_all<F: Copy, C: Channel<F>>(channel: &mut C, frames: &[F])
     ensures { FoldsTo C.puts channel.old frames.now channel.new }
 {
     for frame in frames {
         channel.put(*frame);
     }
-}
-
-// The first `count` frames, or all if there are no more.
-fn first<F: Copy>(frames: &[F], count: usize) -> &[F]
-    ensures { result.now ≡ take count frames.now }
-{
-    &frames[0..count.min(frames.len())]
 }
 
 // Puts the first `count` frames of an array, in order, or all of them if it has no more.
@@ -28,5 +22,5 @@ pub fn put_first<F: Copy, C: Channel<F>, const N: usize>(
 )
     ensures { FoldsTo C.puts channel.old (take count frames.now) channel.new }
 {
-    put_all(channel, first(&frames[..], count));
+    put_all(channel, frames.get(..count).unwrap_or(frames));
 }
