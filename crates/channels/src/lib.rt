@@ -1,4 +1,4 @@
-// Channels: the lists of frames that wait between nodes, four kinds of them, and piles of these.
+// Channels: the lists of frames that wait between nodes, five kinds of them, and piles of these.
 #![tactic(auto)]
 
 pub mod channel;

@@ -5,7 +5,6 @@ ghost use Rattle.std.specs.List.{FoldsTo};
 use crate::channel::Channel;
 
 // Puts each frame of a slice, in order.
-#[tactic(auto, using(crate::proofs::Chains::chained_from, crate::proofs::Chains::chained_past))]
 pub fn put_all<F: Copy, C: Channel<F>>(channel: &mut C, frames: &[F])
     ensures { FoldsTo C.puts channel.old frames.now channel.new }
 {
