@@ -2,4 +2,3 @@ pub mod Chains
 pub mod Rings
 pub mod Places
 pub mod Fronts
-pub mod Held

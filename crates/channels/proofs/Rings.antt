@@ -20,7 +20,7 @@ module _ {F : Type 0} (t : List F) where
   Turned h i r = (r ≡ h + i) ⊎ (length t + r ≡ h + i)
 
   -- the frame at a place
-  pub ring-get_or : (h n i r : ℕ) (d : F) → h < length t → i < n → r < length t → Turned h i r → get_or (ring t h n) i d ≡ get_or t r d
+  pub ring-get_or : (h n i r : ℕ) (d : F) → h ≤ length t → i < n → r < length t → Turned h i r → get_or (ring t h n) i d ≡ get_or t r d
   ring-get_or h n i r d start among within way = get_or-take n (drop h t ++ t) i d among ∙ go way
     where
       rest : length (drop h t) ≡ length t - h
@@ -31,7 +31,7 @@ module _ {F : Type 0} (t : List F) where
       go (inr e) = get_or-append_right (drop h t) t (length t - h) i d rest (omega (arith, e, start)) ∙ ap (λ j. get_or t j d) (omega (arith, e, start))
 
   -- a frame written behind the others
-  pub ring-set : (h n r : ℕ) (f : F) → h < length t → n < length t → r < length t → Turned h n r → ring (set t r f) h (n + 1) ≡ ring t h n ++ f ∷ []
+  pub ring-set : (h n r : ℕ) (f : F) → h ≤ length t → n < length t → r < length t → Turned h n r → ring (set t r f) h (n + 1) ≡ ring t h n ++ f ∷ []
   ring-set h n r f start fits within way = go way
     where
       rest : length (drop h t) ≡ length t - h

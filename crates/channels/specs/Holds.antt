@@ -1,19 +1,11 @@
 -- What the holding layer is. Assumes nothing.
-use Rattle.std.specs.Prelude.{◌≡◌, ℕ, List, [], ◌∷◌, ◌++◌, Some, None, Option}
-use Rattle.std.specs.List.{slice_get}
+use Rattle.std.specs.Prelude.{◌≡◌, List, [], ◌∷◌, ◌++◌, Some, None, Option}
 use Rattle.channels.specs.declared.holding.Holding.{Holding}
 
 -- These frames, and behind them the held one, if one is held.
 abbrev pub with_held : {F : Type 0} → List F → Option F → List F
 with_held fs None = fs
 with_held fs (Some h) = fs ++ h ∷ []
-
--- Place i is that of the held frame, or that of one of the others or of none.
-abbrev pub HeldAt : {F : Type 0} → List F → ℕ → Type 0
-HeldAt {F} fs i = (held : Option F) → held ≡ slice_get (with_held fs held) i
-
-abbrev pub OthersAt : {F : Type 0} → List F → ℕ → Type 0
-OthersAt {F} fs i = (held : Option F) → slice_get fs i ≡ slice_get (with_held fs held) i
 
 -- What a take gives that found `found` below, with `held` held, and what is held after it: the frame found, or, where none was, the held one.
 abbrev pub HoldGives : {F : Type 0} (found held : Option F) → Option F → Option F → Type 0

@@ -1,9 +1,12 @@
 pub mod Channels
 pub mod Lines
 pub mod LineLaws
+pub mod Numbers
 pub mod Wilds
 pub mod WildLaws
 pub mod Repeats
 pub mod RepeatLaws
 pub mod Holds
 pub mod HoldLaws
+pub mod Layereds
+pub mod LayeredLaws

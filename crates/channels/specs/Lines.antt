@@ -1,5 +1,5 @@
 -- What a line is. Assumes nothing.
-use Rattle.std.specs.Prelude.{◌≡◌, ℕ, ◌+◌, ◌-◌, ◌<◌, ◌≤◌, min, List, [], ◌∷◌, ◌++◌, length, take, drop, Some, Option, MatchOption, slice_index_or, slice_set}
+use Rattle.std.specs.Prelude.{◌≡◌, ℕ, ◌+◌, ◌-◌, ◌<◌, ◌≤◌, List, [], ◌∷◌, ◌++◌, length, take, drop, Some, Option, MatchOption, slice_index_or, slice_set}
 use Rattle.std.specs.List.{slice_get}
 use Rattle.channels.specs.declared.line.Line.{Line}
 
@@ -14,7 +14,7 @@ module _ {F : Type 0} where
 
   -- The frames that wait, the oldest first.
   abbrev pub line_waits : Line F → List F
-  line_waits l = ring l.table.now l.head (min l.count (line_room l))
+  line_waits l = ring l.table.now l.head l.count
 
   -- A put adds its frame at the end, and is lost where there is no room.
   pub record LinePuts (c : Line F) (f : F) (d : Line F) : Type 0 where
@@ -29,15 +29,13 @@ module _ {F : Type 0} where
 
   -- Place r of the table is place i of the list: a frame read there is the one that waits at i.
   abbrev pub ReadsAt : Line F → ℕ → ℕ → Type 0
-  ReadsAt l i r = i < length (line_waits l) → (f : F) → f ≡ slice_index_or l.table.now r f → Some f ≡ slice_get (line_waits l) i
+  ReadsAt l i r = i < l.count → (f : F) → f ≡ slice_index_or l.table.now r f → Some f ≡ slice_get (line_waits l) i
 
   -- Where i frames wait, one written there and counted waits behind them.
   abbrev pub WritesAt : Line F → ℕ → ℕ → Type 0
-  WritesAt l i r =
-      i ≡ length (line_waits l) → (f : F) → let table = slice_set l.table.now r f in ring table l.head (min (i + 1) (length table)) ≡ line_waits l ++ f ∷ []
+  WritesAt l i r = i ≡ l.count → (f : F) → ring (slice_set l.table.now r f) l.head (i + 1) ≡ line_waits l ++ f ∷ []
 
-  -- Where n frames wait and i is 0, the oldest stands there, and the others are the n - 1 behind it.
+  -- Where i is 0 and a frame waits, the oldest stands there, and the others behind it.
   abbrev pub OldestAt : Line F → ℕ → ℕ → Type 0
   OldestAt l i r =
-      i ≡ 0 → (n : ℕ) → n ≡ length (line_waits l) → 0 < n → (f : F) → f ≡ slice_index_or l.table.now r f
-      → line_waits l ≡ f ∷ ring l.table.now (r + 1) (min (n - 1) (line_room l))
+      i ≡ 0 → 0 < l.count → (f : F) → f ≡ slice_index_or l.table.now r f → line_waits l ≡ f ∷ ring l.table.now (r + 1) (l.count - 1)

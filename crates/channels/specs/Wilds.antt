@@ -1,11 +1,8 @@
 -- What a wild channel is. Assumes nothing.
-use Rattle.std.specs.Prelude.{◌≡◌, ℕ, ◌+◌, ◌*◌, ◌%◌, ◌^◌, ◌⊎◌, List, length, take, IfSome, Option, slice_set}
+use Rattle.std.specs.Prelude.{◌≡◌, ℕ, ◌⊎◌, List, length, take, IfSome, Option}
 use Rattle.std.specs.List.{ContainsAt}
+use Rattle.channels.specs.Numbers.{number_after}
 use Rattle.channels.specs.declared.wild.Wild.{Wild}
-
--- The number after a number: it is multiplied and added to, and wraps at 2^64.
-abbrev pub number_after : ℕ → ℕ
-number_after n = (n * 6364136223846793005 + 1442695040888963407) % 2 ^ 64
 
 -- Each frame of the second list stands in the first or is f.
 pub record AddsOnly {F : Type 0} (before : List F) (f : F) (after : List F) : Type 0 where
@@ -32,10 +29,3 @@ module _ {F : Type 0} where
     pub room : wild_room d ≡ wild_room c
     pub gives : IfSome o (ContainsAt (wild_waits c))
     pub leaves : (g : F) → ContainsAt (wild_waits d) g → ContainsAt (wild_waits c) g
-
-  -- A frame written at a place of the table, and counted, adds itself alone; and so where it was added before.
-  abbrev pub AddsAt : Wild F → ℕ → Type 0
-  AddsAt w at = (f : F) → AddsOnly (wild_waits w) f (take (at + 1) (slice_set w.table.now at f))
-
-  abbrev pub AddsAgainAt : Wild F → ℕ → Type 0
-  AddsAgainAt w at = (f : F) (fs : List F) → AddsOnly fs f (wild_waits w) → AddsOnly fs f (take (at + 1) (slice_set w.table.now at f))

@@ -13,9 +13,6 @@ pub trait Channel<F> {
     // the channel before a take, what the take gave, and the channel after it
     ghost takes: { Self → Option F → Self → Type 0 };
 
-    // the two facts
-    ghost lawful: { Lawful waits puts takes };
-
     // Puts a frame in.
     fn put(&mut self, frame: F)
         ensures { puts self.old frame self.new };
@@ -23,4 +20,7 @@ pub trait Channel<F> {
     // Takes a frame out, or finds none.
     fn take(&mut self) -> Option<F>
         ensures { takes self.old result self.new };
+
+    // The law of channels: the two facts.
+    ghost lawful: { Lawful waits puts takes };
 }

@@ -1,6 +1,6 @@
 // The newest frame kept back.
-ghost use Rattle.std.specs.Prelude.{◌≡◌, true, false, length, None, ◌==◌};
-ghost use Rattle.channels.specs.Holds.{hold_waits, HoldPuts, HoldTakes, HeldAt, OthersAt};
+ghost use Rattle.std.specs.Prelude.{◌≡◌, length, None, ◌==◌};
+ghost use Rattle.channels.specs.Holds.{hold_waits, HoldPuts, HoldTakes};
 ghost use Rattle.channels.specs.HoldLaws.{hold_lawful};
 
 use crate::channel::Channel;
@@ -43,6 +43,7 @@ impl<F: Copy, C: Channel<F>> Channel<F> for Holding<C, F> {
     fn take(&mut self) -> Option<F>
         ensures { HoldTakes C.Channel.takes self.old result self.new }
     {
+        // Not `or_else`: its contract leaves open what a closure that it does not call does to `held`.
         match self.below.take() {
             Some(frame) => Some(frame),
             None => self.held.take(),
@@ -52,17 +53,9 @@ impl<F: Copy, C: Channel<F>> Channel<F> for Holding<C, F> {
 
 // Whether `i` is the count of frames that wait in a channel.
 fn ends_at<F: Copy, C: Look<F>>(channel: &C, i: usize) -> bool
-    ensures count { result ≡ (i == length (C.Channel.waits channel.now)) }
-    ensures held { result ≡ true → HeldAt (C.Channel.waits channel.now) i }
-    ensures others { result ≡ false → OthersAt (C.Channel.waits channel.now) i }
+    ensures { result ≡ (i == length (C.Channel.waits channel.now)) }
 {
-    if channel.look(i).is_some() {
-        return false;
-    }
-    if i == 0 {
-        return true;
-    }
-    channel.look(i - 1).is_some()
+    channel.look(i).is_none() && (i == 0 || channel.look(i - 1).is_some())
 }
 
 impl<F: Copy, C: Look<F>> Look<F> for Holding<C, F> {

@@ -1,5 +1,5 @@
 // Several frames put into any channel.
-ghost use Rattle.std.specs.Prelude.{◌≡◌, take};
+ghost use Rattle.std.specs.Prelude.{take};
 ghost use Rattle.std.specs.List.{FoldsTo};
 
 use crate::channel::Channel;
@@ -13,13 +13,6 @@ pub fn put_all<F: Copy, C: Channel<F>>(channel: &mut C, frames: &[F])
     }
 }
 
-// The first `count` frames, or all if there are no more.
-fn first<F: Copy>(frames: &[F], count: usize) -> &[F]
-    ensures { result.now ≡ take count frames.now }
-{
-    &frames[0..count.min(frames.len())]
-}
-
 // Puts the first `count` frames of an array, in order, or all of them if it has no more.
 pub fn put_first<F: Copy, C: Channel<F>, const N: usize>(
     channel: &mut C,
@@ -28,5 +21,5 @@ pub fn put_first<F: Copy, C: Channel<F>, const N: usize>(
 )
     ensures { FoldsTo C.puts channel.old (take count frames.now) channel.new }
 {
-    put_all(channel, first(&frames[..], count));
+    put_all(channel, frames.get(..count).unwrap_or(frames));
 }

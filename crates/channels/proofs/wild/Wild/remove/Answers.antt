@@ -1,13 +1,7 @@
-use Rattle.std.proofs.Common.{refl, arith, length-set}
+use Rattle.std.proofs.Common.{arith, length-take}
 use Rattle.channels.proofs.Fronts.{front_removed}
 use Rattle.channels.proofs.wild.Wild.remove.Goals as goal
 
-pub returns : goal.returns
-returns g c =
-    let w = c.args.self.now in
-    let all = c.waiting-last.ensures.count in
-    record {
-      number = refl {a = w.number};
-      room = length-set w.table.now c.args.at _;
-      leaves = λ x m. front_removed _ w.count c.args.at w.table.now _ x all (omega (arith, c.requires.among, all)) m;
-    }
+pub returns-clause-leaves : goal.returns-clause-leaves
+returns-clause-leaves g c = let w = c.args.self.now in
+    λ f m. front_removed w.count c.args.at w.table.now _ f (omega (arith, c.requires, length-take w.count w.table.now)) w.fits m
