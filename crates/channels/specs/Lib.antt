@@ -7,3 +7,5 @@ pub mod Repeats
 pub mod RepeatLaws
 pub mod Holds
 pub mod HoldLaws
+pub mod Layereds
+pub mod LayeredLaws

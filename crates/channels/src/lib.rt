@@ -3,6 +3,7 @@
 
 pub mod channel;
 pub mod holding;
+pub mod layered;
 pub mod line;
 pub mod look;
 pub mod puts;

@@ -1,9 +1,12 @@
 use crate::piles::{over_line, over_wild, put_two};
 use channels::channel::Channel;
 use channels::holding::Holding;
+use channels::layered::{Layer, Layered};
 use channels::line::Line;
+use channels::look::Look;
 use channels::puts::{put_all, put_first};
 use channels::repeating::Repeating;
+use channels::wild::Wild;
 use std::process::Abort;
 
 // The frames that a channel gives are these, and then none.
@@ -42,6 +45,37 @@ fn the_order_of_layers_shows(rt: HostRuntime) {
     let mut outer_holds = Holding::new(Repeating::new(Line::new(&mut other)));
     put_two(&mut outer_holds, 1, 2);
     check_gives(&rt, &mut outer_holds, &[1, 1, 2]);
+}
+
+// Two channels show and give the same after the same puts.
+fn check_same<C: Look<u32>, D: Look<u32>>(rt: &impl Abort, one: &mut C, other: &mut D) {
+    for frame in [1, 2, 3] {
+        one.put(frame);
+        other.put(frame);
+        for i in 0..9 {
+            assert_eq!(rt; one.look(i), other.look(i));
+        }
+    }
+    for _ in 0..9 {
+        assert_eq!(rt; one.take(), other.take());
+    }
+}
+
+#[test]
+fn layers_chosen_as_the_program_runs_are_those_of_its_types(rt: HostRuntime) {
+    let mut table = [0; 8];
+    let mut other = [0; 8];
+    let holding = Layered::new(Line::new(&mut table), Some(Layer::Holding));
+    let mut chosen = Layered::new(holding, Some(Layer::Repeating));
+    let mut typed = Repeating::new(Holding::new(Line::new(&mut other)));
+    check_same(&rt, &mut chosen, &mut typed);
+    let repeating = Layered::new(Line::new(&mut table), Some(Layer::Repeating));
+    let mut chosen = Layered::new(repeating, Some(Layer::Holding));
+    let mut typed = Holding::new(Repeating::new(Line::new(&mut other)));
+    check_same(&rt, &mut chosen, &mut typed);
+    let mut chosen = Layered::new(Wild::new(&mut table, 7), None);
+    let mut typed = Wild::new(&mut other, 7);
+    check_same(&rt, &mut chosen, &mut typed);
 }
 
 #[test]
