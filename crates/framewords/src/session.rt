@@ -56,7 +56,7 @@ impl Session {
         Ok(format!(in self.heap; "room for {room} words")?)
     }
 
-    // The answer to a command.
+    // The answer to a command. A kind of payload is a type, so each has its arms: a closure for each would be no shorter.
     fn answer_command(&mut self, text: &str) -> Result<String, Unanswered> {
         let (command, rest) = next_word(text);
         let (first, rest) = next_word(rest);
@@ -71,7 +71,8 @@ impl Session {
         }
     }
 
-    // The answer to one line of input; none to a blank line or a comment.
+    // The answer to one line of input; none to a blank line or a comment. `console` begins so too: in a library it would owe a contract, and no clause of the
+    // standard library says which words splitting gives.
     pub fn answer(&mut self, line: io::Result<String>) -> Result<Option<String>, Unanswered> {
         let line = line?;
         let words: Vec<&str> = line.as_str().split_whitespace().collect(self.heap)?;
