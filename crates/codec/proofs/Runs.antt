@@ -1,29 +1,18 @@
--- Words read or written one by one: what one more of them adds.
-use Rattle.std.proofs.Common.{◌≡◌, ℕ, zero, suc, ◌+◌, ◌-◌, ◌<◌, true, false, eqb, List, [], ◌∷◌, ◌++◌, length, get_or, take, drop, set, sym, refl, ap, ◌∙◌, arith}
+-- Words read one by one, and words written over the front of a run.
+use Rattle.std.proofs.Common.{◌≡◌, ℕ, zero, suc, ◌+◌, ◌-◌, ◌<◌, false, eqb, List, [], ◌∷◌, ◌++◌, length, get_or, take, drop, set, sym, ap, ◌∙◌, arith}
 use borrow.Rule.Slice.PartMut.{put_mid}
 use Rattle.std.proofs.lemmas.List.{append_assoc, append-nil, take_all, take_more, drop_all, drop_more, drop-drop, set_at, length-take-le}
-use Rattle.std.proofs.lemmas.Bool.{and_from, and_left, and_right, and_parts}
+use Rattle.std.proofs.lemmas.Bool.{and_left, and_right}
 use Rattle.codec.specs.Words.{word_kind}
 use Rattle.codec.specs.Reading.{all_of}
 
-all_of-push : (k : ℕ) (ws : List ℕ) (w : ℕ) → all_of k ws ≡ true → eqb (word_kind w) k ≡ true → all_of k (ws ++ w ∷ []) ≡ true
-all_of-push k [] w all one = and_from (eqb (word_kind w) k) true one refl
-all_of-push k (x ∷ ws) w all one =
-    let p = and_parts (eqb (word_kind x) k) (all_of k ws) all in
-    and_from (eqb (word_kind x) k) (all_of k (ws ++ w ∷ [])) p.0 (all_of-push k ws w p.1 one)
-
--- one word more is of the kind
-pub all_of-more : (k i : ℕ) (ws : List ℕ) → i < length ws → all_of k (take i ws) ≡ true
-    → eqb (word_kind (get_or ws i 0)) k ≡ true → all_of k (take (i + 1) ws) ≡ true
-all_of-more k i ws within all one = ap (all_of k) (take_more ws i 0 within) ∙ all_of-push k (take i ws) (get_or ws i 0) all one
-
 -- one word of another kind spoils them all
-pub all_of-spoilt : (k i n : ℕ) (ws : List ℕ) → i < n → i < length ws → eqb (word_kind (get_or ws i 0)) k ≡ false → all_of k (take n ws) ≡ false
-all_of-spoilt k i zero ws below within other = absurd (omega arith)
-all_of-spoilt k i (suc n) [] below within other = absurd (omega arith)
-all_of-spoilt k zero (suc n) (w ∷ ws) below within other = and_left (eqb (word_kind w) k) (all_of k (take n ws)) other
-all_of-spoilt k (suc i) (suc n) (w ∷ ws) below within other =
-    and_right (eqb (word_kind w) k) (all_of k (take n ws)) (all_of-spoilt k i n ws (omega arith) (omega arith) other)
+pub all_of_spoilt : (k i n : ℕ) (ws : List ℕ) → i < n → i < length ws → eqb (word_kind (get_or ws i 0)) k ≡ false → all_of k (take n ws) ≡ false
+all_of_spoilt k i zero ws below within other = absurd (omega arith)
+all_of_spoilt k i (suc n) [] below within other = absurd (omega arith)
+all_of_spoilt k zero (suc n) (w ∷ ws) below within other = and_left (eqb (word_kind w) k) (all_of k (take n ws)) other
+all_of_spoilt k (suc i) (suc n) (w ∷ ws) below within other =
+    and_right (eqb (word_kind w) k) (all_of k (take n ws)) (all_of_spoilt k i n ws (omega arith) (omega arith) other)
 
 -- Words written one by one over the front of a run: one more of them.
 pub laid_more : (ws run : List ℕ) (i : ℕ) → i < length ws → i < length run

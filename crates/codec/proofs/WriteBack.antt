@@ -14,7 +14,7 @@ use Rattle.codec.specs.declared.word.Kind.TheVariants as kinds
 use Rattle.codec.specs.Words.{word, word_kind, word_value, head_word, head_sender, head_addressee, head_count, kind_code, kind_at}
 use Rattle.codec.specs.Layout.{last_clock, kind_of, field_words, frame_words, body_fits}
 use Rattle.codec.specs.Writing.{writes}
-use Rattle.codec.specs.Reading.{headed, count_after, field_of, all_of, payload_of, body_of, frame_of, frame_at}
+use Rattle.codec.specs.Reading.{headed, count_after, field_of, all_of, payload_of, body_of, body_in, frame_of, frame_at}
 use Rattle.codec.specs.Trips.{WritesBack}
 use Rattle.codec.proofs.Written.{gives_same, wrote, writes-fitting}
 
@@ -173,11 +173,11 @@ module _ {P : Type 0} (size : ℕ) (words : P → List ℕ) (reads : List ℕ �
   frame_only h k ws got kind e =
       let m = count_after size k in
       let c = tested (eqb (head_count h) m) _ 14 got e in
-      let d = tested (leb m (length ws)) (and_then (body_of size reads k ws) (λ b. gives (headed h b, m + 1))) 15 got c.1 in
-      let g = gave (body_of size reads k ws) (λ b. gives (headed h b, m + 1)) got d.1 in
+      let g = gave (body_in size reads k ws) (λ b. gives (headed h b, m + 1)) got c.1 in
+      let d = tested (leb m (length ws)) (body_of size reads k ws) 15 g.0 g.1 in
       let long = leb-true m (length ws) d.0 in
       subst (Whole h ws) (gives_same (headed h g.0, m + 1) got g.2)
-      (headed-only h k ws g.0 kind (eqb-true (head_count h) m c.0) long (body_only k ws g.0 long g.1))
+      (headed-only h k ws g.0 kind (eqb-true (head_count h) m c.0) long (body_only k ws g.0 long d.1))
 
   -- what reading gives can be written, as the words that were read
   pub written_back : (run : List ℕ) → WritesBack words run (frame_at size reads run)

@@ -19,6 +19,15 @@ count_after size kinds.Ack = 2
 abbrev pub field_of : ℕ → ℕ → Answer ℕ
 field_of kind w = cond (word_kind w == kind) (gives (word_value w)) (refuses 16)
 
+-- The values of the first three words, where there are as many: the first a number s, the others of these kinds.
+abbrev pub three_in : ℕ → ℕ → List ℕ → Answer (ℕ × ℕ × ℕ)
+three_in second third ws =
+    cond (nat_le 3 (length ws))
+    (and_then (field_of 8 (slice_index ws 0)) (λ s.
+    and_then (field_of second (slice_index ws 1)) (λ x.
+    and_then (field_of third (slice_index ws 2)) (λ y. gives (s, x, y)))))
+    (refuses 15)
+
 -- Whether each word is of that kind.
 abbrev pub all_of : ℕ → List ℕ → Bool
 all_of kind [] = true
@@ -51,13 +60,15 @@ module _ {P : Type 0} (size : ℕ) (reads : List ℕ → Option P) where
       and_then (field_of 8 (slice_index ws 0)) (λ s.
       and_then (field_of 9 (slice_index ws 1)) (λ r. gives (Ack s r)))
 
+  -- The same, where there may be too few words.
+  abbrev pub body_in : Kind → List ℕ → Answer (Body P)
+  body_in kind ws = cond (nat_le (count_after size kind) (length ws)) (body_of kind ws) (refuses 15)
+
   -- The frame of that kind with that head, and the count of its words.
   abbrev pub frame_of : ℕ → Kind → List ℕ → Answer (Frame P × ℕ)
   frame_of head kind ws =
       cond (head_count head == count_after size kind)
-      (cond (nat_le (count_after size kind) (length ws))
-      (and_then (body_of kind ws) (λ b. gives (headed head b, count_after size kind + 1)))
-      (refuses 15))
+      (and_then (body_in kind ws) (λ b. gives (headed head b, count_after size kind + 1)))
       (refuses 14)
 
   -- The frame at the front of a run, and the count of its words.

@@ -1,5 +1,5 @@
 -- One word: the top 4 bits are its kind, the low 28 its value.
-use Rattle.std.specs.Prelude.{ℕ, ◌+◌, ◌*◌, ◌/◌, ◌%◌, ◌^◌, cond, Some, None, Option, ◌==◌}
+use Rattle.std.specs.Prelude.{◌≡◌, ℕ, ◌+◌, ◌*◌, ◌/◌, ◌%◌, ◌^◌, ◌<◌, cond, Some, None, Option, ◌==◌}
 use Rattle.codec.specs.declared.word.Kind.{Kind}
 use Rattle.codec.specs.declared.word.Kind.TheVariants.{ReqSlots, Slots, Token, Ack}
 use Rattle.codec.specs.declared.word.Field.{Field}
@@ -51,3 +51,8 @@ field_code Clock = 9
 field_code Count = 10
 field_code Low = 11
 field_code Payload = 12
+
+-- A kind's number as it stands in a word: four bits hold it.
+pub record IsCode (code n : ℕ) : Type 0 where
+  pub same : n ≡ code
+  pub small : n < 16

@@ -1,11 +1,16 @@
 // Single words: the top 4 bits are the word's kind, the low 28 its value.
 ghost use Rattle.std.specs.Prelude.{◌≡◌, ◌+◌, ◌*◌, ◌/◌, ◌%◌, ◌^◌, ◌<◌, ◌==◌};
-ghost use Rattle.codec.specs.Words.{word, word_kind, word_value, head_word, head_sender, head_addressee, head_count, kind_code, field_code, kind_at};
+ghost use Rattle.frames.specs.Answers.{answer, or_refuse};
+ghost use Rattle.codec.specs.Layout.{kind_of};
+ghost use Rattle.codec.specs.Words.{word, word_kind, word_value, head_word, head_sender, head_addressee, head_count, kind_code, field_code, kind_at, IsCode};
 
 use crate::bits::{join, part};
+use frames::frame::Body;
+use frames::payload::Payload;
+use frames::refusal::Refusal;
 
 // The kind of a frame, as its head says it.
-#[derive(Clone, Copy)]
+#[derive(Clone, Copy, PartialEq, Eq, Debug)]
 pub enum Kind {
     ReqSlots = 1,
     Slots = 2,
@@ -14,7 +19,7 @@ pub enum Kind {
 }
 
 // What a word after the head holds: s, r, n, l, or a part of the payload.
-#[derive(Clone, Copy)]
+#[derive(Clone, Copy, PartialEq, Eq, Debug)]
 pub enum Field {
     Number = 8,
     Clock = 9,
@@ -23,20 +28,50 @@ pub enum Field {
     Payload = 12,
 }
 
-// The number of a kind of frame.
-fn kind_code(kind: Kind) -> u32
-    ensures code { result ≡ kind_code kind }
-    ensures small { result < 16 }
-{
-    kind as u32
+impl<P: Payload> From<Body<P>> for Kind {
+    ghost from_gives = { λ body kind. kind ≡ kind_of body };
+
+    fn from(body: Body<P>) -> Kind {
+        match body {
+            Body::ReqSlots { .. } => Kind::ReqSlots,
+            Body::Slots { .. } => Kind::Slots,
+            Body::Token { .. } => Kind::Token,
+            Body::Ack { .. } => Kind::Ack,
+        }
+    }
 }
 
-// The number of a kind of field.
-fn field_code(field: Field) -> u32
-    ensures code { result ≡ field_code field }
-    ensures small { result < 16 }
-{
-    field as u32
+impl From<Kind> for u32 {
+    ghost from_gives = { λ kind n. IsCode (kind_code kind) n };
+
+    fn from(kind: Kind) -> u32 {
+        kind as u32
+    }
+}
+
+impl From<Field> for u32 {
+    ghost from_gives = { λ field n. IsCode (field_code field) n };
+
+    fn from(field: Field) -> u32 {
+        field as u32
+    }
+}
+
+// The kind of frame that a head of that kind of word begins.
+impl TryFrom<u32> for Kind {
+    type Error = Refusal;
+
+    ghost try_from_gives = { λ n r. answer r ≡ or_refuse (kind_at n) 13 };
+
+    fn try_from(n: u32) -> Result<Kind, Refusal> {
+        match n {
+            1 => Ok(Kind::ReqSlots),
+            2 => Ok(Kind::Slots),
+            3 => Ok(Kind::Token),
+            4 => Ok(Kind::Ack),
+            _ => Err(Refusal::HeadKind),
+        }
+    }
 }
 
 // The word of a field.
@@ -44,17 +79,7 @@ pub(crate) fn field_word(field: Field, value: u64) -> u32
     requires { value < 2 ^ 28 }
     ensures { result ≡ word (field_code field) value }
 {
-    join(field_code(field), 28, value as u32)
-}
-
-// The head of a frame of that kind, with `count` words to follow.
-pub(crate) fn head_word(kind: Kind, sender: u32, addressee: u32, count: usize) -> u32
-    requires { (sender < 256) × ((addressee < 256) × (count < 4096)) }
-    ensures { result ≡ head_word (kind_code kind) sender addressee count }
-{
-    let from = join(kind_code(kind), 8, sender);
-    let route = join(from, 8, addressee);
-    join(route, 12, count as u32)
+    join(field.into(), 28, value as u32)
 }
 
 // The value of a word.
@@ -68,39 +93,51 @@ pub(crate) fn value_of(w: u32) -> u32
 pub(crate) fn is_field(w: u32, field: Field) -> bool
     ensures { result ≡ (word_kind w == field_code field) }
 {
-    w >> 28 == field_code(field)
+    w >> 28 == field.into()
 }
 
-// The kind of frame that a head begins.
-pub(crate) fn head_kind(head: u32) -> Option<Kind>
-    ensures { result ≡ kind_at (word_kind head) }
-{
-    match head >> 28 {
-        1 => Some(Kind::ReqSlots),
-        2 => Some(Kind::Slots),
-        3 => Some(Kind::Token),
-        4 => Some(Kind::Ack),
-        _ => None,
+// The first word of a frame.
+#[derive(Clone, Copy)]
+pub struct Head(pub u32);
+
+impl Head {
+    // The head of a frame of that kind, with `count` words to follow.
+    pub(crate) fn new(kind: Kind, sender: u32, addressee: u32, count: usize) -> Head
+        requires sender { sender < 256 }
+        requires addressee { addressee < 256 }
+        requires count { count < 4096 }
+        ensures { result.0 ≡ head_word (kind_code kind) sender addressee count }
+    {
+        let from = join(kind.into(), 8, sender);
+        let route = join(from, 8, addressee);
+        Head(join(route, 12, count as u32))
     }
-}
 
-// The sender that a head names.
-pub(crate) fn head_sender(head: u32) -> u32
-    ensures { result ≡ head_sender head }
-{
-    part(head, 20, 8)
-}
+    // The kind of frame that it begins.
+    pub(crate) fn kind(self) -> Result<Kind, Refusal>
+        ensures { answer result ≡ or_refuse (kind_at (word_kind self.0)) 13 }
+    {
+        Kind::try_from(self.0 >> 28)
+    }
 
-// The addressee that a head names.
-pub(crate) fn head_addressee(head: u32) -> u32
-    ensures { result ≡ head_addressee head }
-{
-    part(head, 12, 8)
-}
+    // The sender that it names.
+    pub(crate) fn sender(self) -> u32
+        ensures { result ≡ head_sender self.0 }
+    {
+        part(self.0, 20, 8)
+    }
 
-// The count of words that a head says will follow.
-pub(crate) fn head_count(head: u32) -> usize
-    ensures { result ≡ head_count head }
-{
-    part(head, 0, 12) as usize
+    // The addressee that it names.
+    pub(crate) fn addressee(self) -> u32
+        ensures { result ≡ head_addressee self.0 }
+    {
+        part(self.0, 12, 8)
+    }
+
+    // The count of words that it says will follow.
+    pub(crate) fn count(self) -> usize
+        ensures { result ≡ head_count self.0 }
+    {
+        part(self.0, 0, 12) as usize
+    }
 }

@@ -8,22 +8,10 @@ ghost use Rattle.codec.specs.Reading.{count_after};
 ghost use Rattle.codec.specs.Trips.{ReadsBack};
 
 use crate::reader::count_after;
-use crate::word::{Field, Kind, field_word, head_word};
+use crate::word::{Field, Head, Kind, field_word};
 use frames::frame::{Body, Frame, LAST_CLOCK};
 use frames::payload::Payload;
 use frames::refusal::Refusal;
-
-// The kind of a body.
-fn kind_of<P: Payload>(body: Body<P>) -> Kind
-    ensures { result ≡ kind_of body }
-{
-    match body {
-        Body::ReqSlots { .. } => Kind::ReqSlots,
-        Body::Slots { .. } => Kind::Slots,
-        Body::Token { .. } => Kind::Token,
-        Body::Ack { .. } => Kind::Ack,
-    }
-}
 
 // Whether each field of a body fits a word.
 fn body_fits<P: Payload>(body: Body<P>) -> bool
@@ -49,31 +37,34 @@ fn word_count<P: Payload>(frame: Frame<P>) -> usize
     ensures count { result ≡ length (frame_words P.words frame) }
     ensures few { result ≤ 7 }
 {
-    count_after::<P>(kind_of(frame.body)) + 1
+    count_after::<P>(Kind::from(frame.body)) + 1
 }
 
 // The head of a frame, with `count` words to follow.
-fn head_of<P: Payload>(frame: Frame<P>, count: usize) -> u32
-    requires { (frame_fits frame ≡ true) × (count < 4096) }
-    ensures { result ≡ head_word (kind_code (kind_of frame.body)) frame.sender frame.addressee count }
+fn head_of<P: Payload>(frame: Frame<P>, count: usize) -> Head
+    requires fits { frame_fits frame ≡ true }
+    requires count { count < 4096 }
+    ensures { result.0 ≡ head_word (kind_code (kind_of frame.body)) frame.sender frame.addressee count }
 {
-    head_word(kind_of(frame.body), frame.sender, frame.addressee, count)
+    Head::new(Kind::from(frame.body), frame.sender, frame.addressee, count)
 }
 
 // Writes the payload's words over the front of the run.
 fn put_payload<P: Payload>(payload: P, run: &mut [u32])
-    requires { P.size ≤ length run.old }
-    ensures { run.new ≡ map (word 12) (P.words payload) ++ drop P.size run.old }
+    requires { P.SIZE ≤ length run.old }
+    ensures { run.new ≡ map (word 12) (P.words payload) ++ drop P.SIZE run.old }
 {
-    for i in 0..P::count() {
-        run[i] = field_word(Field::Payload, u64::from(payload.word(i)));
+    for (i, place) in run[..P::SIZE].iter_mut().enumerate() {
+        *place = field_word(Field::Payload, u64::from(payload.word(i)));
     }
 }
 
 // Writes the head, the two fields and the payload of a token over the front of the run.
 fn put_token<P: Payload>(head: u32, s: u64, r: u64, payload: P, run: &mut [u32])
-    requires { (s < 2 ^ 28) × ((r < 2 ^ 28) × (3 + P.size ≤ length run.old)) }
-    ensures { run.new ≡ (head ∷ field_words P.words (Body.Token s r payload)) ++ drop (3 + P.size) run.old }
+    requires number { s < 2 ^ 28 }
+    requires clock { r < 2 ^ 28 }
+    requires room { 3 + P.SIZE ≤ length run.old }
+    ensures { run.new ≡ (head ∷ field_words P.words (Body.Token s r payload)) ++ drop (3 + P.SIZE) run.old }
 {
     let s = field_word(Field::Number, s);
     let r = field_word(Field::Clock, r);
@@ -83,8 +74,9 @@ fn put_token<P: Payload>(head: u32, s: u64, r: u64, payload: P, run: &mut [u32])
 
 // Writes the head and the words after it over the front of the run.
 fn put_words<P: Payload>(head: u32, body: Body<P>, run: &mut [u32])
-    requires { (body_fits body ≡ true) × (count_after P.size (kind_of body) < length run.old) }
-    ensures { run.new ≡ (head ∷ field_words P.words body) ++ drop (count_after P.size (kind_of body) + 1) run.old }
+    requires fits { body_fits body ≡ true }
+    requires room { count_after P.SIZE (kind_of body) < length run.old }
+    ensures { run.new ≡ (head ∷ field_words P.words body) ++ drop (count_after P.SIZE (kind_of body) + 1) run.old }
 {
     match body {
         Body::ReqSlots { s, n, l } => {
@@ -113,7 +105,7 @@ pub fn write_frame<P: Payload>(frame: Frame<P>, run: &mut [u32]) -> Result<usize
     ensures told { answer result ≡ writes P.words frame (length run.old) }
     ensures after { run.new ≡ overwritten (frame_words P.words frame) (answer result) run.old }
     ensures within { IfOk result (λ n. n ≤ length run.old) }
-    ensures reads_back { ReadsBack P.size P.reads frame (answer result) run.new }
+    ensures reads_back { ReadsBack P.SIZE P.reads frame (answer result) run.new }
 {
     if !frame_fits(frame) {
         return Err(Refusal::TooLarge);
@@ -122,6 +114,6 @@ pub fn write_frame<P: Payload>(frame: Frame<P>, run: &mut [u32]) -> Result<usize
     if run.len() < count {
         return Err(Refusal::NoRoom);
     }
-    put_words(head_of(frame, count - 1), frame.body, run);
+    put_words(head_of(frame, count - 1).0, frame.body, run);
     Ok(count)
 }

@@ -7,8 +7,10 @@ use crate::refusal::Refusal;
 
 // A kind of payload: how its values become words of 28 bits, and such words its values.
 pub trait Payload: Copy {
-    // how many words each value takes
-    ghost size: { ℕ };
+    // How many words each value takes, 1 to 4.
+    const SIZE: usize;
+
+    ghost SIZE: { ℕ };
 
     // the words of a value
     ghost words: { Self → List ℕ };
@@ -16,11 +18,7 @@ pub trait Payload: Copy {
     // the value with these words, if there is one
     ghost reads: { List ℕ → Option Self };
 
-    // How many words each value takes, 1 to 4.
-    fn count() -> usize
-        ensures { result ≡ size };
-
-    // The word at place `i`, and 0 past the last.
+    // The word at place `i`, and 0 past the last. One at a time, since an array cannot be as long as a constant of the type.
     fn word(self, i: usize) -> u32
         ensures { result ≡ slice_index (words self) i };
 
@@ -28,11 +26,11 @@ pub trait Payload: Copy {
     fn read(ws: &[u32]) -> Result<Self, Refusal>
         ensures { answer result ≡ or_refuse (reads ws.now) 17 };
 
-    ghost some: { 1 ≤ size };
+    ghost some: { 1 ≤ SIZE };
 
-    ghost few: { size ≤ 4 };
+    ghost few: { SIZE ≤ 4 };
 
-    ghost counted: { (x : Self) → length (words x) ≡ size };
+    ghost counted: { (x : Self) → length (words x) ≡ SIZE };
 
     ghost narrow: { (x : Self) → AllByRecursion (λ w. w < 2 ^ 28) (words x) };
 

@@ -1,91 +1,24 @@
 // The two calls. In C a run is a pointer to its first word and then the count of its words.
-ghost use Rattle.std.specs.Prelude.{◌≡◌, neg_ℤ, pos, length};
+ghost use Rattle.std.specs.Prelude.{◌≡◌, ◌^◌, ◌<◌, ◌≤◌, length, IfOk};
 ghost use Rattle.frames.specs.Answers.{answer, number_of, refuses};
-ghost use Rattle.frames_c.specs.Flat.{body_given, given, flat};
+ghost use Rattle.frames_c.specs.Flat.{given};
 ghost use Rattle.frames_c.specs.Calls.{signed, earliest, line_writes, line_written, line_at, line_count, line_read};
 
 use crate::line_frame::LineFrame;
 use codec::{read_frame, write_frame};
-use frames::frame::{Body, Frame, LAST_CLOCK};
+use frames::frame::{Frame, LAST_CLOCK};
 use frames::refusal::Refusal;
 use payloads::line::ProfileLine;
 
-// The body that the numbers give.
-fn body_given(x: LineFrame) -> Result<Body<ProfileLine>, Refusal>
-    ensures { answer result ≡ body_given x }
+// A count as it is, a refusal as minus its number.
+fn signed(told: Result<usize, Refusal>) -> i64
+    requires { IfOk told (λ n. n < 2 ^ 63) }
+    ensures { result ≡ signed (answer told) }
 {
-    let (s, r, n, l) = (x.s, x.r, x.n, x.l);
-    match x.kind {
-        1 => Ok(Body::ReqSlots { s, n, l }),
-        2 => Ok(Body::Slots { s, r, n }),
-        3 => {
-            let payload = ProfileLine::new(x.place, x.step)?;
-            Ok(Body::Token { s, r, payload })
-        }
-        4 => Ok(Body::Ack { s, r }),
-        _ => Err(Refusal::HeadKind),
+    match told {
+        Ok(count) => count as i64,
+        Err(refusal) => -i64::from(refusal.number()),
     }
-}
-
-// The frame that the numbers give.
-fn frame_given(x: LineFrame) -> Result<Frame<ProfileLine>, Refusal>
-    ensures { answer result ≡ given x }
-{
-    let body = body_given(x)?;
-    Ok(Frame {
-        sender: x.sender,
-        addressee: x.addressee,
-        body,
-    })
-}
-
-// The numbers of a frame.
-fn flattened(frame: Frame<ProfileLine>) -> LineFrame
-    ensures { result ≡ flat frame }
-{
-    let x = LineFrame {
-        kind: 0,
-        sender: frame.sender,
-        addressee: frame.addressee,
-        s: 0,
-        r: 0,
-        n: 0,
-        l: 0,
-        place: 0,
-        step: 0,
-    };
-    match frame.body {
-        Body::ReqSlots { s, n, l } => LineFrame {
-            kind: 1,
-            s,
-            n,
-            l,
-            ..x
-        },
-        Body::Slots { s, r, n } => LineFrame {
-            kind: 2,
-            s,
-            r,
-            n,
-            ..x
-        },
-        Body::Token { s, r, payload } => LineFrame {
-            kind: 3,
-            s,
-            r,
-            place: payload.place(),
-            step: payload.step(),
-            ..x
-        },
-        Body::Ack { s, r } => LineFrame { kind: 4, s, r, ..x },
-    }
-}
-
-// Minus the number of a refusal.
-fn minus(refusal: Refusal) -> i64
-    ensures { result ≡ neg_ℤ (pos (number_of refusal)) }
-{
-    -i64::from(refusal.number())
 }
 
 // The refusal where the numbers give no frame: the given one, or of a token an earlier one that writing it meets.
@@ -104,6 +37,29 @@ fn first_refusal(x: LineFrame, room: usize, refusal: Refusal) -> Refusal
     refusal
 }
 
+// Writes the frame that the numbers give.
+fn write(x: LineFrame, run: &mut [u32]) -> Result<usize, Refusal>
+    ensures told { answer result ≡ line_writes x (given x) (length run.old) }
+    ensures after { run.new ≡ line_written (given x) run.old }
+    ensures within { IfOk result (λ n. n ≤ length run.old) }
+{
+    match Frame::<ProfileLine>::try_from(x) {
+        Ok(frame) => write_frame(frame, run),
+        Err(refusal) => Err(first_refusal(x, run.len(), refusal)),
+    }
+}
+
+// Reads the numbers of a frame.
+fn read(run: &[u32], x: &mut LineFrame) -> Result<usize, Refusal>
+    ensures told { answer result ≡ line_count (line_at run.now) }
+    ensures after { x.new ≡ line_read (line_at run.now) x.old }
+    ensures within { IfOk result (λ n. n ≤ length run.now) }
+{
+    let (frame, count) = read_frame::<ProfileLine>(run)?;
+    *x = LineFrame::from(frame);
+    Ok(count)
+}
+
 // Writes a frame's words over the front of a run, and gives their count, or minus the number of the first refusal:
 // 13 for the kind, 18 for what is too large, 19 for the room, 20 for the line. A refusal leaves the run as it was.
 #[unsafe(no_mangle)]
@@ -111,13 +67,7 @@ pub extern "C" fn keyvurram_write_line(frame: &LineFrame, run: &mut [u32]) -> i6
     ensures told { result ≡ signed (line_writes frame.now (given frame.now) (length run.old)) }
     ensures after { run.new ≡ line_written (given frame.now) run.old }
 {
-    match frame_given(*frame) {
-        Ok(f) => match write_frame(f, run) {
-            Ok(count) => count as i64,
-            Err(refusal) => minus(refusal),
-        },
-        Err(refusal) => minus(first_refusal(*frame, run.len(), refusal)),
-    }
+    signed(write(*frame, run))
 }
 
 // Reads the frame at the front of a run, and gives the count of its words, or minus the number of the first refusal,
@@ -127,11 +77,5 @@ pub extern "C" fn keyvurram_read_line(run: &[u32], frame: &mut LineFrame) -> i64
     ensures told { result ≡ signed (line_count (line_at run.now)) }
     ensures after { frame.new ≡ line_read (line_at run.now) frame.old }
 {
-    match read_frame::<ProfileLine>(run) {
-        Ok((f, count)) => {
-            *frame = flattened(f);
-            count as i64
-        }
-        Err(refusal) => minus(refusal),
-    }
+    signed(read(run, frame))
 }

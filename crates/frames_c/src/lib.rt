@@ -2,4 +2,5 @@
 #![tactic(auto)]
 
 mod calls;
+mod convert;
 pub mod line_frame;

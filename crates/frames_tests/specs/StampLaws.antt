@@ -1,10 +1,9 @@
 -- The laws of a stamp's words.
-use Rattle.std.specs.Prelude.{◌≡◌, ℕ, ◌+◌, ◌*◌, ◌/◌, ◌%◌, ◌^◌, ◌<◌, Bool, true, false, cond, ◌&&◌, List, [], ◌∷◌, Some, None, Option, nat_lt, refl}
+use Rattle.std.specs.Prelude.{◌≡◌, ℕ, ◌+◌, ◌*◌, ◌/◌, ◌^◌, ◌<◌, Bool, true, false, cond, ◌&&◌, List, [], ◌∷◌, Some, None, Option, nat_lt, refl}
 use Rattle.std.proofs.Common.{ap, ◌∙◌, arith}
 use Rattle.std.proofs.lemmas.Nat.{shr-shr}
-use Rattle.std.proofs.lemmas.Bool.{ltb-true, lt-ltb, and_parts, and_from}
+use Rattle.std.proofs.lemmas.Bool.{ltb-true, lt-ltb, and_parts}
 use Rattle.frames_tests.specs.declared.stamp.Stamp.{Stamp}
-use Rattle.frames_tests.specs.Ranges.{stamp_fits}
 use Rattle.frames_tests.specs.Stamps.{stamp_of, part_of, stamp_words, joined, stamp_by, stamp_reads}
 use Rattle.payloads.specs.Made.{checked-at, checked-only}
 

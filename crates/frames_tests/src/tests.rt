@@ -102,7 +102,7 @@ fn stamp_in_a_longer_run(rt: HostRuntime) -> Result<(), Fail> {
     Ok(())
 }
 
-// The call says no, with that number.
+// The call says no, with that number: the numbers are what is promised.
 fn refused<T: Drop>(rt: &impl Abort, answer: Result<T, Refusal>, number: u8) -> Result<(), Fail> {
     match answer {
         Ok(_) => Err(Fail::new("it is not refused")),

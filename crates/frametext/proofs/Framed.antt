@@ -1,5 +1,6 @@
 -- Frames read back from their text.
-use Rattle.std.proofs.Common.{◌≡◌, ℕ, zero, suc, ◌^◌, ◌<◌, Bool, true, false, List, [], ◌∷◌, ◌++◌, drop, codes, decimal, sym, refl, ap, ◌∙◌, arith}
+use Rattle.std.proofs.Common.{◌≡◌, ℕ, zero, suc, ◌^◌, ◌<◌, Bool, true, false, List, [], ◌∷◌, ◌++◌, Some, Option, codes, decimal, sym, refl, ap, ◌∙◌, arith}
+use Rattle.std.specs.Option.{option_map}
 use Rattle.std.specs.Str.{bytes_eq}
 use Rattle.std.proofs.lemmas.Slice.Eq.{bytes_eq-Decides}
 use Rattle.std.proofs.lemmas.List.{append_assoc}
@@ -8,9 +9,21 @@ use Rattle.frames.specs.declared.frame.Body.{Body}
 use Rattle.frames.specs.declared.frame.Body.TheVariants.{ReqSlots, Slots, Token, Ack}
 use Rattle.frametext.specs.Scan.{first_word, other_words}
 use Rattle.frametext.specs.Told.{Told, tells, unread}
-use Rattle.frametext.specs.Frames.{body_held, Held, body_text, frame_text, kind_in, frame_in}
+use Rattle.frames.specs.Texts.{routed, body_text, frame_text, body_shown, frame_shown}
+use Rattle.frametext.specs.Frames.{body_held, Held, kind_in, frame_in}
 use Rattle.frametext.specs.Cuts.{Lacks, before-cut, behind-cut, before-all, behind-none}
 use Rattle.frametext.specs.Digits.{number_back, decimal-lacks}
+
+-- what is known of a frame's text is the whole of it, where that is so of each payload
+pub frame_known : {P : Type 0} (shown : P → Option (List ℕ)) (spelling : P → List ℕ) → ((x : P) → shown x ≡ Some (spelling x))
+    → (f : Frame P) → frame_shown shown f ≡ Some (frame_text spelling f)
+frame_known {P = P} shown spelling law f = ap (option_map (routed f.sender f.addressee)) (body_known f.body)
+  where
+    body_known : (b : Body P) → body_shown shown b ≡ Some (body_text spelling b)
+    body_known (ReqSlots s n l) = refl
+    body_known (Slots s r n) = refl
+    body_known (Token s r p) = ap (option_map (λ t. body_text (λ _. t) (Token s r p))) (law p)
+    body_known (Ack s r) = refl
 
 different : (xs ys : List ℕ) → (xs ≡ ys → ⊥) → bytes_eq xs ys ≡ false
 different xs ys apart = go (bytes_eq xs ys) (bytes_eq-Decides xs ys).0
@@ -44,11 +57,11 @@ route_no_space a b ha hb =
     (Lacks-append 32 (62 ∷ []) (decimal b) arrow_no_space (no_space b (omega arith)))
 
 module _ {P : Type 0} (spelling : P → List ℕ) (spelled : List ℕ → Told P) (respelled : (x : P) → spelled (spelling x) ≡ tells x) where
-  -- the words of a body behind the space, from its kind on
+  -- the words of a body, from its kind on
   words_in : List ℕ → Told (Body P)
   words_in bs = kind_in spelled (first_word bs) (other_words bs)
 
-  body_respelled : (b : Body P) → body_held b → words_in (drop 1 (body_text spelling b)) ≡ tells b
+  body_respelled : (b : Body P) → body_held b → words_in (body_text spelling b) ≡ tells b
   unfolding words_in
   body_respelled (ReqSlots s n l) held =
       let rest = codes "n=" ++ (decimal n ++ (codes " l=" ++ decimal l)) in
@@ -97,22 +110,15 @@ module _ {P : Type 0} (spelling : P → List ℕ) (spelled : List ℕ → Told P
         behind-none 32 (decimal r) (no_space r held.1),
       )
 
-  body_spaced : (b : Body P) → body_text spelling b ≡ 32 ∷ drop 1 (body_text spelling b)
-  body_spaced (ReqSlots s n l) = refl
-  body_spaced (Slots s r n) = refl
-  body_spaced (Token s r p) = refl
-  body_spaced (Ack s r) = refl
-
   pub frame_respelled : (f : Frame P) → Held f → frame_in spelled (frame_text spelling f) ≡ tells f
   unfolding words_in
   frame_respelled f held =
       let a = f.sender in
       let b = f.addressee in
       let route = decimal a ++ (codes ">" ++ decimal b) in
-      let body = drop 1 (body_text spelling f.body) in
+      let body = body_text spelling f.body in
       let apart : frame_text spelling f ≡ route ++ (32 ∷ body) =
-      ap (λ bs. decimal a ++ (codes ">" ++ (decimal b ++ bs))) (body_spaced f.body)
-      ∙ sym (append_assoc (decimal a) (codes ">" ++ decimal b) (32 ∷ body)) in
+      sym (append_assoc (decimal a) (codes ">" ++ decimal b) (32 ∷ body)) in
       let spaceless = route_no_space a b held.0 held.1 in
       let arrowless = decimal-lacks 62 a (omega (arith, held.0)) (λ d. omega (arith, d)) in
       ap (frame_in spelled) apart

@@ -1,2 +1,3 @@
 mod Framed
+mod Hexes
 mod Shown

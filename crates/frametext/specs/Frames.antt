@@ -1,5 +1,5 @@
--- The text of a frame, as `0>1 REQSLOTS s=0 n=3 l=0`, and the frame in a text.
-use Rattle.std.specs.Prelude.{ℕ, ◌^◌, ◌<◌, cond, List, ◌++◌, codes, decimal}
+-- The frame in a text, as `0>1 REQSLOTS s=0 n=3 l=0`.
+use Rattle.std.specs.Prelude.{ℕ, ◌^◌, ◌<◌, cond, List, codes}
 use Rattle.std.specs.Str.{bytes_eq}
 use Rattle.frames.specs.declared.frame.Frame.{Frame}
 use Rattle.frames.specs.declared.frame.Body.{Body}
@@ -43,26 +43,6 @@ route_in word =
     and_tell (or_unread (behind 62 word)) (λ to.
     and_tell (or_unread (number_in 10 32 (before 62 word))) (λ sender.
     and_tell (or_unread (number_in 10 32 to)) (λ addressee. tells (sender, addressee))))
-
--- A text behind the two nodes of a frame.
-abbrev pub routed : ℕ → ℕ → List ℕ → List ℕ
-routed sender addressee bs = decimal sender ++ (codes ">" ++ (decimal addressee ++ bs))
-
--- The text of a request of slots, behind a space.
-abbrev pub req_slots_text : ℕ → ℕ → ℕ → List ℕ
-req_slots_text s n l = codes " REQSLOTS s=" ++ (decimal s ++ (codes " n=" ++ (decimal n ++ (codes " l=" ++ decimal l))))
-
-module _ {P : Type 0} (spelling : P → List ℕ) where
-  -- The text of a body, behind a space.
-  abbrev pub body_text : Body P → List ℕ
-  body_text (ReqSlots s n l) = req_slots_text s n l
-  body_text (Slots s r n) = codes " SLOTS s=" ++ (decimal s ++ (codes " r=" ++ (decimal r ++ (codes " n=" ++ decimal n))))
-  body_text (Token s r p) = codes " TOKEN s=" ++ (decimal s ++ (codes " r=" ++ (decimal r ++ (codes " " ++ spelling p))))
-  body_text (Ack s r) = codes " ACK s=" ++ (decimal s ++ (codes " r=" ++ decimal r))
-
-  -- The text of a frame, where `spelling` gives that of a payload.
-  abbrev pub frame_text : Frame P → List ℕ
-  frame_text f = routed f.sender f.addressee (body_text f.body)
 
 module _ {P : Type 0} (spelled : List ℕ → Told P) where
   -- The fields of each kind of body.

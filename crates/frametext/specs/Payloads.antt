@@ -1,7 +1,6 @@
--- The text of a payload, and the payload in a text.
-use Rattle.std.specs.Prelude.{ℕ, cond, List, ◌++◌, ℤ, Some, None, codes, decimal, Option}
+-- The payload in a text.
+use Rattle.std.specs.Prelude.{ℕ, cond, List, Some, None, codes, Option}
 use Rattle.std.specs.Str.{bytes_eq}
-use Rattle.std.specs.Fmt.{signed_decimal}
 use Rattle.payloads.specs.declared.sort.Sort.{Sort}
 use Rattle.payloads.specs.declared.sort.Sort.TheVariants.{AlarmPressed, DoorFault, Stopped}
 use Rattle.payloads.specs.declared.event.LiftEvent.{LiftEvent}
@@ -12,25 +11,14 @@ use Rattle.frametext.specs.Scan.{stripped, first_word, other_words}
 use Rattle.frametext.specs.Told.{Told, tells, and_tell, or_unread, or_no_payload}
 use Rattle.frametext.specs.Numbers.{number_in, field_in, signed_field_in}
 
--- A line, as `place=5 step=-2`.
-abbrev pub parts_text : ℕ → ℤ → List ℕ
-parts_text place step = codes "place=" ++ (decimal place ++ (codes " step=" ++ signed_decimal step))
-
-abbrev pub line_text : ProfileLine → List ℕ
-line_text x = parts_text x.place x.step
-
+-- A line in a text.
 abbrev pub line_in : List ℕ → Told ProfileLine
 line_in bs =
     and_tell (field_in 32 (codes "place=") (first_word bs)) (λ place.
     and_tell (signed_field_in (codes "step=") (other_words bs)) (λ step.
     or_no_payload (line_of place step)))
 
--- A sort, as `alarm`, `door=7` or `floor=-3`, behind a space.
-abbrev pub sort_text : Sort → List ℕ
-sort_text AlarmPressed = codes " alarm"
-sort_text (DoorFault code) = codes " door=" ++ decimal code
-sort_text (Stopped floor) = codes " floor=" ++ signed_decimal floor
-
+-- A sort in a text.
 abbrev pub door_or_floor_in : Option (List ℕ) → List ℕ → Told Sort
 door_or_floor_in (Some ds) bs = and_tell (or_unread (number_in 10 32 ds)) (λ code. tells (DoorFault code))
 door_or_floor_in None bs = and_tell (signed_field_in (codes "floor=") bs) (λ floor. tells (Stopped floor))
@@ -38,13 +26,7 @@ door_or_floor_in None bs = and_tell (signed_field_in (codes "floor=") bs) (λ fl
 abbrev pub sort_in : List ℕ → Told Sort
 sort_in bs = cond (bytes_eq bs (codes "alarm")) (tells AlarmPressed) (door_or_floor_in (stripped (codes "door=") bs) bs)
 
--- An event, as `lift=12 floor=-3`.
-abbrev pub happening_text : ℕ → Sort → List ℕ
-happening_text lift sort = codes "lift=" ++ (decimal lift ++ sort_text sort)
-
-abbrev pub event_text : LiftEvent → List ℕ
-event_text x = happening_text x.lift x.sort
-
+-- An event in a text.
 abbrev pub event_in : List ℕ → Told LiftEvent
 event_in bs =
     and_tell (field_in 32 (codes "lift=") (first_word bs)) (λ lift.

@@ -1,7 +1,7 @@
 -- What a text tells: a value, a payload that is refused by its number, or nothing that can be read.
 -- Which of several expected things a fault names is left open.
 use Rattle.std.specs.Prelude.{ℕ, List, [], ◌∷◌, Some, None, Ok, Err, Option, Result}
-use Rattle.frames.specs.Answers.{number_of}
+use Rattle.frames.specs.Answers.{Answer, gives, refuses, number_of, or_refuse}
 use Rattle.frametext.specs.declared.fault.Fault.{Fault}
 use Rattle.frametext.specs.declared.fault.Fault.TheVariants.{NotThere, NoPayload}
 
@@ -27,10 +27,14 @@ abbrev pub or_unread : {A : Type 0} → Option A → Told A
 or_unread (Some x) = tells x
 or_unread None = unread
 
+-- What an answer tells: its value, or the payload that is refused.
+abbrev pub told_of : {A : Type 0} → Answer A → Told A
+told_of (gives x) = tells x
+told_of (refuses n) = no_payload n
+
 -- The payload that was made, or its refusal: a part is out of range.
 abbrev pub or_no_payload : {A : Type 0} → Option A → Told A
-or_no_payload (Some x) = tells x
-or_no_payload None = no_payload 20
+or_no_payload o = told_of (or_refuse o 20)
 
 -- Nothing more in the text.
 abbrev pub end_in : List ℕ → Told (Unit {0})

@@ -1,12 +1,12 @@
 // Why a text is not taken.
-ghost use Rattle.std.specs.Prelude.{◌≡◌};
+ghost use Rattle.std.specs.Prelude.{◌≡◌, Some};
 ghost use Rattle.frametext.specs.Labels.{label_text};
 
 use frames::refusal::Refusal;
 use std::fmt;
 
 // What stands before a number, as `s=` before 5 in `s=5`.
-#[derive(Clone, Copy)]
+#[derive(Clone, Copy, PartialEq, Eq, Debug)]
 pub enum Label {
     S,
     R,
@@ -38,8 +38,16 @@ impl Label {
     }
 }
 
+impl fmt::Display for Label {
+    ghost output = { λ label. Some (label_text label) };
+
+    fn fmt<W: fmt::Write>(&self, f: &mut fmt::Formatter<W>) -> fmt::Result {
+        f.write_str(self.text())
+    }
+}
+
 // What a text should have had at some place.
-#[derive(Clone, Copy)]
+#[derive(Clone, Copy, PartialEq, Eq, Debug)]
 pub enum Expected {
     Route,
     Kind,
@@ -49,7 +57,7 @@ pub enum Expected {
 }
 
 // What was wrong with a text.
-#[derive(Clone, Copy)]
+#[derive(Clone, Copy, PartialEq, Eq, Debug)]
 pub enum Fault {
     // This was expected, and something else stood there.
     NotThere(Expected),
@@ -62,10 +70,7 @@ impl fmt::Display for Expected {
         match self {
             Expected::Route => f.write_str("SENDER>ADDRESSEE"),
             Expected::Kind => f.write_str("REQSLOTS, SLOTS, TOKEN or ACK"),
-            Expected::Number(label) => {
-                f.write_str(label.text())?;
-                f.write_str("NUMBER")
-            }
+            Expected::Number(label) => write!(f, "{label}NUMBER"),
             Expected::Sort => f.write_str("alarm, door=NUMBER or floor=NUMBER"),
             Expected::End => f.write_str("the end of the line"),
         }

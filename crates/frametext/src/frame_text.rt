@@ -2,63 +2,40 @@
 ghost use Rattle.std.specs.Prelude.{◌≡◌, IfOk, string_bytes};
 ghost use Rattle.frametext.specs.Told.{told, tells};
 ghost use Rattle.frametext.specs.Labels.{label_text};
-ghost use Rattle.frametext.specs.Frames.{Held, routed, req_slots_text, frame_text};
-ghost use Rattle.frametext.specs.Frames.{two_in, behind_two, three_in, route_in, req_slots_in, slots_in, token_in, ack_in, kind_in, frame_in};
+ghost use Rattle.frames.specs.Texts.{frame_text};
+ghost use Rattle.frametext.specs.Frames.{Held};
+ghost use Rattle.frametext.specs.Frames.{first_field, two_in, behind_two, three_in, route_in, req_slots_in, slots_in, token_in, ack_in, kind_in, frame_in};
 
 use crate::fault::{Expected, Fault, Label};
 use crate::payload_text::PayloadText;
-use crate::scan::{cut, ends, field, next_word, short_number};
+use crate::scan::{cut, ends, field, next_word, number};
 use frames::frame::{Body, Frame};
 use std::alloc::{AllocError, Global};
 
-// The text of a request of slots.
-fn show_req_slots(
-    from: u32,
-    to: u32,
-    s: u64,
-    n: u64,
-    l: u64,
-    heap: Global,
-) -> Result<String, AllocError>
-    ensures { IfOk result (λ t. string_bytes t ≡ routed from to (req_slots_text s n l)) }
-{
-    format!(in heap; "{from}>{to} REQSLOTS s={s} n={n} l={l}")
-}
-
-// The text of a frame, by its kind.
-fn spell<P: PayloadText>(frame: Frame<P>, heap: Global) -> Result<String, AllocError>
-    ensures { IfOk result (λ s. string_bytes s ≡ frame_text P.spelling frame) }
-{
-    let from = frame.sender;
-    let to = frame.addressee;
-    match frame.body {
-        Body::ReqSlots { s, n, l } => show_req_slots(from, to, s, n, l, heap),
-        Body::Slots { s, r, n } => format!(in heap; "{from}>{to} SLOTS s={s} r={r} n={n}"),
-        Body::Token { s, r, payload } => {
-            let payload = payload.show(heap)?;
-            let payload = payload.as_str();
-            format!(in heap; "{from}>{to} TOKEN s={s} r={r} {payload}")
-        }
-        Body::Ack { s, r } => format!(in heap; "{from}>{to} ACK s={s} r={r}"),
-    }
-}
-
 // The text of a frame, which reads back as that frame, whatever numbers its types hold.
+#[tactic(auto, using(crate::proofs::Framed::frame_known))]
 pub fn show_frame<P: PayloadText>(frame: Frame<P>, heap: Global) -> Result<String, AllocError>
     ensures text { IfOk result (λ s. string_bytes s ≡ frame_text P.spelling frame) }
     ensures reads_back { Held frame → frame_in P.spelled (frame_text P.spelling frame) ≡ tells frame }
 {
-    spell(frame, heap)
+    format!(in heap; "{frame}")
+}
+
+// The number of a field that comes first in a text.
+fn first_field(text: &str, label: Label) -> Result<u64, Fault>
+    ensures { told result ≡ first_field (label_text label) text.now }
+{
+    let (word, _) = next_word(text);
+    field(word, label)
 }
 
 // The field s, and the field behind it.
 fn two_fields(text: &str, second: Label) -> Result<(u64, u64), Fault>
     ensures { told result ≡ two_in (label_text second) text.now }
 {
-    let (first, rest) = next_word(text);
-    let (word, _) = next_word(rest);
-    let s = field(first, Label::S)?;
-    let x = field(word, second)?;
+    let (_, rest) = next_word(text);
+    let s = first_field(text, Label::S)?;
+    let x = first_field(rest, second)?;
     Ok((s, x))
 }
 
@@ -76,8 +53,9 @@ fn three_fields(text: &str, second: Label, third: Label) -> Result<(u64, u64, u6
     ensures { told result ≡ three_in (label_text second) (label_text third) text.now }
 {
     let (s, x) = two_fields(text, second)?;
-    let (word, rest) = next_word(behind_two(text));
-    let y = field(word, third)?;
+    let rest = behind_two(text);
+    let y = first_field(rest, third)?;
+    let (_, rest) = next_word(rest);
     ends(rest)?;
     Ok((s, x, y))
 }
@@ -113,6 +91,7 @@ fn parse_ack<P: PayloadText>(text: &str) -> Result<Body<P>, Fault>
 }
 
 // The body of that kind that a text shows.
+#[tactic(auto, using(crate::proofs::Framed::other_kind))]
 fn parse_kind<P: PayloadText>(kind: &str, text: &str) -> Result<Body<P>, Fault>
     ensures { told result ≡ kind_in P.spelled kind.now text.now }
 {
@@ -129,11 +108,9 @@ fn parse_kind<P: PayloadText>(kind: &str, text: &str) -> Result<Body<P>, Fault>
 fn parse_route(word: &str) -> Result<(u32, u32), Fault>
     ensures { told result ≡ route_in word.now }
 {
-    let Some((from, to)) = cut(word, '>') else {
-        return Err(Fault::NotThere(Expected::Route));
-    };
-    let sender = short_number(from, Expected::Route)?;
-    let addressee = short_number(to, Expected::Route)?;
+    let (from, to) = cut(word, '>').ok_or(Fault::NotThere(Expected::Route))?;
+    let sender = number(from, Expected::Route)?;
+    let addressee = number(to, Expected::Route)?;
     Ok((sender, addressee))
 }
 

@@ -1,14 +1,45 @@
 // A text taken apart, piece by piece.
-ghost use Rattle.std.specs.Prelude.{◌≡◌, ◌<◌};
+ghost use Rattle.std.specs.Prelude.{◌≡◌, ◌<◌, ℕ, List, Option, Result};
 ghost use Rattle.std.specs.Option.{option_map};
-ghost use Rattle.frametext.specs.Told.{told, or_unread, end_in};
+ghost use Rattle.std.specs.Result.{result_ok};
+ghost use Rattle.frametext.specs.Told.{told, and_tell, or_unread, end_in};
 ghost use Rattle.frametext.specs.Labels.{label_text};
 ghost use Rattle.frametext.specs.Scan.{Cut, first_word, other_words, stripped};
-ghost use Rattle.frametext.specs.Numbers.{number_in, signed_in, field_in, signed_field_in};
+ghost use Rattle.frametext.specs.Numbers.{number_in, signed_in};
+ghost use Rattle.frametext.specs.Digits.{number_read, signed_read};
 
 use crate::fault::{Expected, Fault, Label};
+use std::str::FromStr;
+
+// A type of number that texts hold.
+pub trait Numeral: FromStr {
+    // the number that a text is
+    ghost numeral: { List ℕ → Option Self };
+
+    // what `parse` gives is that number
+    ghost parsed: { (bs : List ℕ) (r : Result Self Self.Err) → Self.from_str_gives bs r → result_ok r ≡ numeral bs };
+}
+
+impl Numeral for u32 {
+    ghost numeral = { number_in 10 32 };
+
+    ghost parsed = { λ bs r h. number_read 10 32 bs r h.0 };
+}
+
+impl Numeral for u64 {
+    ghost numeral = { number_in 10 64 };
+
+    ghost parsed = { λ bs r h. number_read 10 64 bs r h.0 };
+}
+
+impl Numeral for i32 {
+    ghost numeral = { signed_in };
+
+    ghost parsed = { λ bs r h. signed_read bs r h.0 };
+}
 
 // The texts before and behind the first `at`, an ASCII character, if it comes.
+#[tactic(auto, using(crate::specs::Cuts::cut_read))]
 pub(crate) fn cut<'a>(text: &'a str, at: char) -> Option<(&'a str, &'a str)>
     requires { at < 128 }
     ensures { Cut at text.now result }
@@ -21,77 +52,35 @@ pub fn next_word(text: &str) -> (&str, &str)
     ensures word { result.0.now ≡ first_word text.now }
     ensures rest { result.1.now ≡ other_words text.now }
 {
-    match cut(text, ' ') {
-        Some((word, rest)) => (word, rest),
-        None => (text, ""),
-    }
-}
-
-// The number that a text is.
-pub(crate) fn number(text: &str, expected: Expected) -> Result<u64, Fault>
-    ensures { told result ≡ or_unread (number_in 10 64 text.now) }
-{
-    match text.parse::<u64>() {
-        Ok(n) => Ok(n),
-        Err(_) => Err(Fault::NotThere(expected)),
-    }
-}
-
-// The number of 32 bits that a text is.
-pub(crate) fn short_number(text: &str, expected: Expected) -> Result<u32, Fault>
-    ensures { told result ≡ or_unread (number_in 10 32 text.now) }
-{
-    match text.parse::<u32>() {
-        Ok(n) => Ok(n),
-        Err(_) => Err(Fault::NotThere(expected)),
-    }
-}
-
-// The signed number that a text is.
-pub(crate) fn signed_number(text: &str, expected: Expected) -> Result<i32, Fault>
-    ensures { told result ≡ or_unread (signed_in text.now) }
-{
-    match text.parse::<i32>() {
-        Ok(n) => Ok(n),
-        Err(_) => Err(Fault::NotThere(expected)),
-    }
+    cut(text, ' ').unwrap_or((text, ""))
 }
 
 // The text behind a label that it begins with.
+#[tactic(auto, using(crate::specs::Cuts::strip_read))]
 pub(crate) fn strip<'a>(word: &'a str, label: &str) -> Option<&'a str>
     ensures { option_map (λ x. x.now) result ≡ stripped label.now word.now }
 {
     word.strip_prefix(label)
 }
 
-// The number behind a label, as 5 in `s=5`.
-pub(crate) fn field(word: &str, label: Label) -> Result<u64, Fault>
-    ensures { told result ≡ field_in 64 (label_text label) word.now }
+// The number that a text is.
+pub(crate) fn number<N: Numeral>(text: &str, expected: Expected) -> Result<N, Fault>
+where
+    N::Err: Drop,
+    ensures { told result ≡ or_unread (N.numeral text.now) }
 {
-    match strip(word, label.text()) {
-        Some(digits) => number(digits, Expected::Number(label)),
-        None => Err(Fault::NotThere(Expected::Number(label))),
-    }
+    text.parse::<N>().map_err(|_| Fault::NotThere(expected))
 }
 
-// The number of 32 bits behind a label.
-pub(crate) fn short_field(word: &str, label: Label) -> Result<u32, Fault>
-    ensures { told result ≡ field_in 32 (label_text label) word.now }
+// The number behind a label, as 5 in `s=5` and -2 in `step=-2`.
+pub(crate) fn field<N: Numeral>(word: &str, label: Label) -> Result<N, Fault>
+where
+    N::Err: Drop,
+    ensures { told result ≡ and_tell (or_unread (stripped (label_text label) word.now)) (λ ds. or_unread (N.numeral ds)) }
 {
-    match strip(word, label.text()) {
-        Some(digits) => short_number(digits, Expected::Number(label)),
-        None => Err(Fault::NotThere(Expected::Number(label))),
-    }
-}
-
-// The signed number behind a label, as -2 in `step=-2`.
-pub(crate) fn signed_field(word: &str, label: Label) -> Result<i32, Fault>
-    ensures { told result ≡ signed_field_in (label_text label) word.now }
-{
-    match strip(word, label.text()) {
-        Some(digits) => signed_number(digits, Expected::Number(label)),
-        None => Err(Fault::NotThere(Expected::Number(label))),
-    }
+    let expected = Expected::Number(label);
+    let digits = strip(word, label.text()).ok_or(Fault::NotThere(expected))?;
+    number(digits, expected)
 }
 
 // Nothing more may follow.

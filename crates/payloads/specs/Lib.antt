@@ -2,6 +2,7 @@ pub mod Checked
 pub mod Ranges
 pub mod Lines
 pub mod Events
+pub mod Texts
 pub mod EventLaws
 pub mod Made
 pub mod Signs

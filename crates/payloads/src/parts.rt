@@ -4,7 +4,8 @@ ghost use Rattle.payloads.specs.Ranges.{raised, lowered};
 
 // The word with these halves.
 pub(crate) fn halves(high: u32, low: u32) -> u32
-    requires { (high < 2 ^ 16) × (low < 2 ^ 16) }
+    requires high { high < 2 ^ 16 }
+    requires low { low < 2 ^ 16 }
     ensures { result ≡ high * 2 ^ 16 + low }
 {
     high << 16 | low
@@ -26,7 +27,9 @@ pub(crate) fn low_half(w: u32) -> u32
 
 // `x` counted from `-below` on.
 pub(crate) fn raise(x: i32, below: u32) -> u32
-    requires { (below < 65536) × ((pos 0 ≤ℤ (x +ℤ pos below)) × (x ≤ℤ pos 65535)) }
+    requires below { below < 65536 }
+    requires counts { pos 0 ≤ℤ (x +ℤ pos below) }
+    requires within { x ≤ℤ pos 65535 }
     ensures { result ≡ raised below x }
 {
     (x + below as i32) as u32
@@ -34,7 +37,8 @@ pub(crate) fn raise(x: i32, below: u32) -> u32
 
 // The number that `n` counts from `-below` on.
 pub(crate) fn lower(n: u32, below: u32) -> i32
-    requires { (below < 65536) × (n < 65536) }
+    requires below { below < 65536 }
+    requires within { n < 65536 }
     ensures { result ≡ lowered below n }
 {
     n as i32 - below as i32

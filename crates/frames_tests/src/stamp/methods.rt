@@ -49,10 +49,7 @@ impl Stamp {
     pub fn new(value: u128) -> Result<Stamp, Refusal>
         ensures { answer result ≡ or_refuse (stamp_of value) 20 }
     {
-        match stamp_of(value) {
-            Some(stamp) => Ok(stamp),
-            None => Err(Refusal::PartRange),
-        }
+        stamp_of(value).ok_or(Refusal::PartRange)
     }
 
     // The value, below 2^112.
@@ -65,7 +62,9 @@ impl Stamp {
 
 // Four words of 28 bits, the highest bits first.
 impl Payload for Stamp {
-    ghost size = { 4 };
+    const SIZE: usize = 4;
+
+    ghost SIZE = { 4 };
 
     ghost words = { stamp_words };
 
@@ -83,10 +82,6 @@ impl Payload for Stamp {
 
     ghost only = { stamp_only };
 
-    fn count() -> usize {
-        4
-    }
-
     fn word(self, i: usize) -> u32 {
         match i {
             0 => part(self.value, 84),
@@ -101,9 +96,6 @@ impl Payload for Stamp {
         let [a, b, c, d] = ws else {
             return Err(Refusal::PayloadWords);
         };
-        match stamp_in(*a, *b, *c, *d) {
-            Some(stamp) => Ok(stamp),
-            None => Err(Refusal::PayloadWords),
-        }
+        stamp_in(*a, *b, *c, *d).ok_or(Refusal::PayloadWords)
     }
 }

@@ -1,8 +1,9 @@
 // Events made, looked at, and as words.
-ghost use Rattle.std.specs.Prelude.{◌≡◌, ◌/◌, ◌%◌, ◌^◌, ◌<◌, true};
+ghost use Rattle.std.specs.Prelude.{◌≡◌, ◌/◌, ◌%◌, ◌^◌, ◌<◌, true, Some};
 ghost use Rattle.frames.specs.Answers.{answer, or_refuse};
 ghost use Rattle.payloads.specs.Ranges.{sort_fits, event_fits};
 ghost use Rattle.payloads.specs.Events.{event_of, sort_code, sort_detail, sort_of, event_by, event_words, event_reads};
+ghost use Rattle.payloads.specs.Texts.{event_text};
 ghost use Rattle.payloads.specs.EventLaws.{event_back, event_only};
 ghost use Rattle.std.proofs.Common.{rules};
 
@@ -11,8 +12,10 @@ use crate::parts::{halves, high_half, low_half, lower, raise};
 use crate::sort::Sort;
 use frames::payload::Payload;
 use frames::refusal::Refusal;
+use std::fmt;
 
-// The numbers of the sorts.
+// The numbers of the sorts, as the first word has them. An enum of them would name the three sorts once more, and is turned into a `Sort` only with a
+// detail, which has to be in range: more than `From` can ask.
 const ALARM_PRESSED: u32 = 1;
 
 const DOOR_FAULT: u32 = 2;
@@ -94,10 +97,8 @@ fn event_in(first: u32, detail: u32) -> Option<LiftEvent>
     if detail > 255 {
         return None;
     }
-    match sort_of(high_half(first), detail) {
-        Some(sort) => event_of(low_half(first), sort),
-        None => None,
-    }
+    let sort = sort_of(high_half(first), detail)?;
+    event_of(low_half(first), sort)
 }
 
 impl LiftEvent {
@@ -105,10 +106,7 @@ impl LiftEvent {
     pub fn new(lift: u32, sort: Sort) -> Result<LiftEvent, Refusal>
         ensures { answer result ≡ or_refuse (event_of lift sort) 20 }
     {
-        match event_of(lift, sort) {
-            Some(event) => Ok(event),
-            None => Err(Refusal::PartRange),
-        }
+        event_of(lift, sort).ok_or(Refusal::PartRange)
     }
 
     // The lift, 0 to 65,535.
@@ -128,7 +126,9 @@ impl LiftEvent {
 
 // Two words: the sort's number in bits 19-16 and the lift in bits 15-0; then the detail of the sort.
 impl Payload for LiftEvent {
-    ghost size = { 2 };
+    const SIZE: usize = 2;
+
+    ghost SIZE = { 2 };
 
     ghost words = { event_words };
 
@@ -146,10 +146,6 @@ impl Payload for LiftEvent {
 
     ghost only = { event_only };
 
-    fn count() -> usize {
-        2
-    }
-
     fn word(self, i: usize) -> u32 {
         match i {
             0 => halves(sort_code(self.sort), self.lift),
@@ -162,9 +158,15 @@ impl Payload for LiftEvent {
         let [first, detail] = ws else {
             return Err(Refusal::PayloadWords);
         };
-        match event_in(*first, *detail) {
-            Some(event) => Ok(event),
-            None => Err(Refusal::PayloadWords),
-        }
+        event_in(*first, *detail).ok_or(Refusal::PayloadWords)
+    }
+}
+
+// As `lift=12 alarm`, `lift=12 door=7` or `lift=12 floor=-3`.
+impl fmt::Display for LiftEvent {
+    ghost output = { λ x. Some (event_text x) };
+
+    fn fmt<W: fmt::Write>(&self, f: &mut fmt::Formatter<W>) -> fmt::Result {
+        write!(f, "lift={} {}", self.lift, self.sort)
     }
 }

@@ -1,8 +1,9 @@
 // Lines made, looked at, and as words.
-ghost use Rattle.std.specs.Prelude.{◌≡◌};
+ghost use Rattle.std.specs.Prelude.{◌≡◌, Some};
 ghost use Rattle.frames.specs.Answers.{answer, or_refuse};
 ghost use Rattle.payloads.specs.Ranges.{line_fits};
 ghost use Rattle.payloads.specs.Lines.{line_of, line_words, line_reads};
+ghost use Rattle.payloads.specs.Texts.{line_text};
 ghost use Rattle.payloads.specs.LineLaws.{line_back, line_only};
 ghost use Rattle.std.proofs.Common.{rules};
 
@@ -10,6 +11,7 @@ use crate::line::ProfileLine;
 use crate::parts::{halves, high_half, low_half, lower, raise};
 use frames::payload::Payload;
 use frames::refusal::Refusal;
+use std::fmt;
 
 // Whether a line's parts are in range.
 fn line_fits(place: u32, step: i32) -> bool
@@ -34,10 +36,7 @@ impl ProfileLine {
     pub fn new(place: u32, step: i32) -> Result<ProfileLine, Refusal>
         ensures { answer result ≡ or_refuse (line_of place step) 20 }
     {
-        match line_of(place, step) {
-            Some(line) => Ok(line),
-            None => Err(Refusal::PartRange),
-        }
+        line_of(place, step).ok_or(Refusal::PartRange)
     }
 
     // The place in the profile, 0 to 1,023.
@@ -57,7 +56,9 @@ impl ProfileLine {
 
 // One word: the place in bits 25-16, the step, counted from -32,768 on, in bits 15-0.
 impl Payload for ProfileLine {
-    ghost size = { 1 };
+    const SIZE: usize = 1;
+
+    ghost SIZE = { 1 };
 
     ghost words = { line_words };
 
@@ -75,10 +76,6 @@ impl Payload for ProfileLine {
 
     ghost only = { line_only };
 
-    fn count() -> usize {
-        1
-    }
-
     fn word(self, i: usize) -> u32 {
         if i == 0 {
             halves(self.place, raise(self.step, 32768))
@@ -91,9 +88,15 @@ impl Payload for ProfileLine {
         let [w] = ws else {
             return Err(Refusal::PayloadWords);
         };
-        match line_of(high_half(*w), lower(low_half(*w), 32768)) {
-            Some(line) => Ok(line),
-            None => Err(Refusal::PayloadWords),
-        }
+        line_of(high_half(*w), lower(low_half(*w), 32768)).ok_or(Refusal::PayloadWords)
+    }
+}
+
+// As `place=5 step=-2`.
+impl fmt::Display for ProfileLine {
+    ghost output = { λ x. Some (line_text x) };
+
+    fn fmt<W: fmt::Write>(&self, f: &mut fmt::Formatter<W>) -> fmt::Result {
+        write!(f, "place={} step={}", self.place, self.step)
     }
 }

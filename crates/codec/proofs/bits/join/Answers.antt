@@ -6,5 +6,5 @@ use Rattle.codec.proofs.bits.join.Goals as goal
 pub returns : goal.returns
 returns c =
     let a = c.args in
-    ap (λ x. bit_or x a.low) (shl_whole a.high (32 - a.shift) a.shift 32 c.requires.1.0 (omega arith))
-    ∙ or_shifted a.high a.shift a.low c.requires.1.1
+    ap (λ x. bit_or x a.low) (shl_whole a.high (32 - a.shift) a.shift 32 c.requires.high (omega arith))
+    ∙ or_shifted a.high a.shift a.low c.requires.low

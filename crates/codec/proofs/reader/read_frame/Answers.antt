@@ -11,9 +11,9 @@ returns g c =
     let p = g.P.Payload in
     let laws = g.met.P.Payload in
     let run = c.args.run.now in
-    let told : answer c.read_after.result ≡ frame_at p.size p.reads run = search (rules, first_rest) in
+    let told : answer c.read_after.result ≡ frame_at p.SIZE p.reads run = search (rules, first_rest) in
     record {
       told = told;
-      within = used_within p.size p.words p.reads laws.only run c.read_after.result told;
-      writes_back = λ f n e. written_back p.size p.words p.reads laws.only run f n (sym told ∙ e);
+      within = used_within p.SIZE p.words p.reads laws.only run c.read_after.result told;
+      writes_back = λ f n e. written_back p.SIZE p.words p.reads laws.only run f n (sym told ∙ e);
     }

@@ -5,16 +5,9 @@ use Rattle.codec.specs.Words.{head_word, kind_code}
 use Rattle.codec.specs.Layout.{kind_of, field_words, frame_words}
 use Rattle.codec.specs.Reading.{count_after, frame_at}
 use Rattle.codec.proofs.Counts.{fields_counted}
-use Rattle.codec.proofs.Written.{frame_fits_lem, gives_same, writes-fitting}
+use Rattle.codec.proofs.Written.{gives_same, writes-fitting}
 use Rattle.codec.proofs.ReadBack.{frame_back}
 use Rattle.codec.proofs.writer.write_frame.Goals as goal
-
-pub put_words-requires : goal.put_words-requires
-put_words-requires g c =
-    let p = g.P.Payload in
-    let f = c.args.frame in
-    let counted = fields_counted p.size p.words g.met.P.Payload.counted f.body in
-    ((frame_fits_lem f (sym c.if-not-frame_fits.ensures)).body, omega arith)
 
 pub returns : goal.returns
 returns g c =
@@ -26,19 +19,19 @@ returns g c =
     let fields = field_words p.words f.body in
     let fits = sym c.if-not-frame_fits.ensures in
     let count = c.word_count-count.ensures.count in
-    let counted = fields_counted p.size p.words laws.counted f.body in
+    let counted = fields_counted p.SIZE p.words laws.counted f.body in
     let long : n - 1 ≡ length fields = omega arith in
-    let whole : count_after p.size (kind_of f.body) + 1 ≡ n = omega arith in
+    let whole : count_after p.SIZE (kind_of f.body) + 1 ≡ n = omega arith in
     let head = c.head_of.ensures ∙ ap (head_word (kind_code (kind_of f.body)) f.sender f.addressee) long in
     let after : c.put_words.new.run ≡ frame_words p.words f ++ drop n run =
     c.put_words.ensures
-    ∙ ap (λ h. h ∷ (fields ++ drop (count_after p.size (kind_of f.body) + 1) run)) head
+    ∙ ap (λ h. h ∷ (fields ++ drop (count_after p.SIZE (kind_of f.body) + 1) run)) head
     ∙ ap (λ k. frame_words p.words f ++ drop k run) whole in
-    let back = frame_back p.size p.words p.reads laws.few laws.counted laws.narrow laws.back f (drop n run) fits in
+    let back = frame_back p.SIZE p.words p.reads laws.few laws.counted laws.narrow laws.back f (drop n run) fits in
     record {
       told = sym (writes-fitting p.words f (length run) n fits count (omega arith));
       after = after;
       within = omega arith;
       reads_back = λ m e.
-          ap (frame_at p.size p.reads) after ∙ back ∙ ap (λ k. gives (f, k)) (sym count ∙ gives_same n m e);
+          ap (frame_at p.SIZE p.reads) after ∙ back ∙ ap (λ k. gives (f, k)) (sym count ∙ gives_same n m e);
     }
