@@ -16,7 +16,8 @@ use script::{Change, PayloadKind, Pile};
 use session::Session;
 use std::io;
 
-// Follows commands up to the one that changes the channel or the kind of payload; none at the end of the input.
+// Follows commands up to the one that changes the channel or the kind of payload; none at the end of the input. A kind of payload is a type, so each has
+// an arm: a closure for each would be no shorter.
 fn follow(
     kind: PayloadKind,
     pile: Option<Pile>,

@@ -2,7 +2,6 @@
 ghost use Rattle.console.specs.Input.{ReadsOn};
 
 use crate::player::Scene;
-use crate::report::in_words;
 use crate::script::{Bottom, Change, MOST_LAYERS, Pile, Wanted};
 use crate::session::Session;
 use channels::layered::{Layer, Layered};
@@ -25,9 +24,7 @@ fn attend<P: PayloadText + PartialEq, C: Look<Frame<P>> + Drop>(
     let [first, second, third] = layers;
     let pile = Layered::new(Layered::new(Layered::new(bottom, first), second), third);
     let mut scene = Scene::new(pile, session.heap());
-    session.next_change::<P, _>(|session, action| {
-        session.tell(in_words(scene.play(action)?, session.heap())?)
-    })
+    session.next_change::<P, _>(|session, action| session.tell(scene.play(action)?))
 }
 
 // A table with room for that many frames; those that fill it at first are never seen.

@@ -75,7 +75,7 @@ impl<C> Scene<C> {
             .collect(self.heap)
     }
 
-    // Does what an action says.
+    // Does what an action says. An action carries what its own arm needs, which a closure in its place would have to capture.
     pub fn play<F: Copy + PartialEq>(&mut self, action: Action<F>) -> Result<Outcome<F>, AllocError>
     where
         C: Look<F>,

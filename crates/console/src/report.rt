@@ -2,10 +2,6 @@
 use crate::player::{Outcome, Strays, Totals};
 use crate::script::{Bottom, Change, MOST_LAYERS, MOST_ROOM, PayloadKind, Pile, Wanted};
 use channels::layered::Layer;
-use frames::frame::Frame;
-use frametext::frame_text::show_frame;
-use frametext::payload_text::PayloadText;
-use std::alloc::{AllocError, Global};
 use std::fmt;
 use std::fmt::Display;
 
@@ -38,11 +34,10 @@ impl fmt::Display for Bottom {
 impl fmt::Display for Pile {
     fn fmt<W: fmt::Write>(&self, f: &mut fmt::Formatter<W>) -> fmt::Result {
         write!(f, "{}", self.bottom)?;
-        for layer in self.layers {
+        for layer in self.layers.iter().flatten() {
             match layer {
-                Some(Layer::Repeating) => f.write_str(" repeating")?,
-                Some(Layer::Holding) => f.write_str(" holding")?,
-                None => {}
+                Layer::Repeating => f.write_str(" repeating")?,
+                Layer::Holding => f.write_str(" holding")?,
             }
         }
         Ok(())
@@ -95,13 +90,14 @@ impl<F: Display> fmt::Display for Outcome<F> {
     fn fmt<W: fmt::Write>(&self, f: &mut fmt::Formatter<W>) -> fmt::Result {
         match self {
             Outcome::Put { waiting, strays } => write!(f, "put, {waiting} waiting{strays}"),
-            Outcome::Took { frame, strays } => {
-                match frame {
-                    Some(frame) => write!(f, "took {frame}")?,
-                    None => f.write_str("took none")?,
-                }
-                write!(f, "{strays}")
-            }
+            Outcome::Took {
+                frame: Some(frame),
+                strays,
+            } => write!(f, "took {frame}{strays}"),
+            Outcome::Took {
+                frame: None,
+                strays,
+            } => write!(f, "took none{strays}"),
             Outcome::Shown { waiting, totals } => {
                 write!(f, "{} waiting", waiting.len())?;
                 for frame in waiting {
@@ -111,47 +107,4 @@ impl<F: Display> fmt::Display for Outcome<F> {
             }
         }
     }
-}
-
-// The texts of frames.
-fn all_in_words<P: PayloadText>(
-    frames: &[Frame<P>],
-    heap: Global,
-) -> Result<Vec<String>, AllocError> {
-    frames
-        .iter()
-        .map(|frame| show_frame(*frame, heap))
-        .try_collect(heap)
-}
-
-// The same strays, each copy as text.
-fn strays_in_words<P: PayloadText>(
-    strays: &Strays<Frame<P>>,
-    heap: Global,
-) -> Result<Strays<String>, AllocError> {
-    Ok(Strays {
-        lost: all_in_words(strays.lost.as_slice(), heap)?,
-        repeated: all_in_words(strays.repeated.as_slice(), heap)?,
-    })
-}
-
-// The same outcome, each frame as text.
-pub fn in_words<P: PayloadText>(
-    outcome: Outcome<Frame<P>>,
-    heap: Global,
-) -> Result<Outcome<String>, AllocError> {
-    Ok(match outcome {
-        Outcome::Put { waiting, strays } => Outcome::Put {
-            waiting,
-            strays: strays_in_words(&strays, heap)?,
-        },
-        Outcome::Took { frame, strays } => Outcome::Took {
-            frame: frame.map(|frame| show_frame(frame, heap)).transpose()?,
-            strays: strays_in_words(&strays, heap)?,
-        },
-        Outcome::Shown { waiting, totals } => Outcome::Shown {
-            waiting: all_in_words(waiting.as_slice(), heap)?,
-            totals,
-        },
-    })
 }

@@ -212,7 +212,8 @@ fn parse_command<P: PayloadText>(text: &str) -> Result<Command<Frame<P>>, Unread
     }
 }
 
-// The command of a line of input; none in a blank line or a comment.
+// The command of a line of input; none in a blank line or a comment. `framewords` begins so too: in a library it would owe a contract, and no clause of the
+// standard library says which words splitting gives.
 pub fn read_line<P: PayloadText>(
     line: io::Result<String>,
     heap: Global,

@@ -2,7 +2,7 @@
 use crate::unanswered::{Unanswered, Wanted};
 use codec::{read_frame, write_frame};
 use frametext::fault::Expected;
-use frametext::frame_text::{parse_frame, show_frame};
+use frametext::frame_text::parse_frame;
 use frametext::next_word;
 use frametext::payload_text::PayloadText;
 use frametext::word_text::{parse_word, show_words};
@@ -35,7 +35,6 @@ impl Session {
         let words = text.split_whitespace().map(parse_word);
         let words: Vec<u32> = words.collect::<Option<_>>(self.heap)?.ok_or(Wanted::Words)?;
         let (frame, used) = read_frame::<P>(words.as_slice())?;
-        let frame = show_frame(frame, self.heap)?;
         Ok(format!(in self.heap; "{frame}, {used} words")?)
     }
 
