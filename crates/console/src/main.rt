@@ -1,41 +1,33 @@
 // Channels played by commands on standard input.
 #![tactic(auto)]
 
+ghost use Rattle.console.specs.Input.{ReadsOn};
+
 mod pile;
 mod player;
 mod report;
 mod script;
 mod session;
 
-use frametext::payload_text::PayloadText;
 use payloads::event::LiftEvent;
 use payloads::line::ProfileLine;
 use pile::play_on;
-use player::Comparable;
-use script::{Change, Command, PayloadKind, Pile, Unread, Wanted};
+use script::{Change, PayloadKind, Pile};
 use session::Session;
 use std::io;
 
-// Waits for a command that can be followed where there is no channel.
-fn wait<P: PayloadText>(session: &mut Session) -> io::Result<Option<Change>> {
-    for _ in 0..u64::MAX {
-        match session.next_command::<P>()? {
-            Some(Command::Action(_)) => session.tell_unread(Unread::Unclear(Wanted::Channel))?,
-            Some(Command::Change(change)) => return Ok(Some(change)),
-            None => return Ok(None),
-        }
-    }
-    Ok(None)
-}
-
-// Follows commands up to the one that changes the channel or the kind of payload; none at the end of the input.
-fn follow<P: PayloadText + Comparable>(
+// Follows commands up to the one that changes the channel or the kind of payload; none at the end of the input. A kind of payload is a type, so each has
+// an arm: a closure for each would be no shorter.
+fn follow(
+    kind: PayloadKind,
     pile: Option<Pile>,
     session: &mut Session,
-) -> io::Result<Option<Change>> {
-    match pile {
-        Some(pile) => play_on::<P>(pile, session),
-        None => wait::<P>(session),
+) -> io::Result<Option<Change>>
+    ensures { ReadsOn session.old result session.new }
+{
+    match kind {
+        PayloadKind::Line => play_on::<ProfileLine>(pile, session),
+        PayloadKind::Event => play_on::<LiftEvent>(pile, session),
     }
 }
 
@@ -43,14 +35,7 @@ fn main(rt: HostRuntime) -> io::Result<()> {
     let mut session = Session::new(rt)?;
     let mut kind = PayloadKind::Line;
     let mut pile = None;
-    for _ in 0..u64::MAX {
-        let next = match kind {
-            PayloadKind::Line => follow::<ProfileLine>(pile, &mut session)?,
-            PayloadKind::Event => follow::<LiftEvent>(pile, &mut session)?,
-        };
-        let Some(change) = next else {
-            return Ok(());
-        };
+    while let Some(change) = follow(kind, pile, &mut session)? {
         session.tell(change)?;
         match change {
             Change::Channel(named) => pile = Some(named),

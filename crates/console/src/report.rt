@@ -1,14 +1,9 @@
 // What happened, as text.
 use crate::player::{Outcome, Strays, Totals};
-use crate::script::{
-    Bottom, Change, Layer, MOST_LAYERS, MOST_ROOM, PayloadKind, Pile, Unread, Wanted,
-};
-use frames::frame::Frame;
-use frametext::frame_text::show_frame;
-use frametext::payload_text::PayloadText;
-use std::alloc::{AllocError, Global};
+use crate::script::{Bottom, Change, MOST_LAYERS, MOST_ROOM, PayloadKind, Pile, Wanted};
+use channels::layered::Layer;
 use std::fmt;
-use std::fmt::{Debug, Display};
+use std::fmt::Display;
 
 impl fmt::Display for Wanted {
     fn fmt<W: fmt::Write>(&self, f: &mut fmt::Formatter<W>) -> fmt::Result {
@@ -22,7 +17,7 @@ impl fmt::Display for Wanted {
             Wanted::Layer => f.write_str("repeating or holding"),
             Wanted::FewLayers => write!(f, "at most {MOST_LAYERS} layers"),
             Wanted::Channel => f.write_str("channel PILE first"),
-            Wanted::Part(expected) => expected.fmt(f),
+            Wanted::Part(expected) => write!(f, "{expected}"),
         }
     }
 }
@@ -38,15 +33,23 @@ impl fmt::Display for Bottom {
 
 impl fmt::Display for Pile {
     fn fmt<W: fmt::Write>(&self, f: &mut fmt::Formatter<W>) -> fmt::Result {
-        self.bottom.fmt(f)?;
-        for layer in self.layers {
+        write!(f, "{}", self.bottom)?;
+        for layer in self.layers.iter().flatten() {
             match layer {
-                Some(Layer::Repeating) => f.write_str(" repeating")?,
-                Some(Layer::Holding) => f.write_str(" holding")?,
-                None => {}
+                Layer::Repeating => f.write_str(" repeating")?,
+                Layer::Holding => f.write_str(" holding")?,
             }
         }
         Ok(())
+    }
+}
+
+impl fmt::Display for PayloadKind {
+    fn fmt<W: fmt::Write>(&self, f: &mut fmt::Formatter<W>) -> fmt::Result {
+        match self {
+            PayloadKind::Line => f.write_str("line"),
+            PayloadKind::Event => f.write_str("event"),
+        }
     }
 }
 
@@ -54,97 +57,54 @@ impl fmt::Display for Pile {
 impl fmt::Display for Change {
     fn fmt<W: fmt::Write>(&self, f: &mut fmt::Formatter<W>) -> fmt::Result {
         match self {
-            Change::Channel(pile) => {
-                f.write_str("channel ")?;
-                pile.fmt(f)
+            Change::Channel(pile) => write!(f, "channel {pile}"),
+            Change::Payload(kind) => write!(f, "payload {kind}, no channel"),
+        }
+    }
+}
+
+impl fmt::Display for Totals {
+    fn fmt<W: fmt::Write>(&self, f: &mut fmt::Formatter<W>) -> fmt::Result {
+        write!(
+            f,
+            "put {}, repeated {}, taken {}, lost {}",
+            self.put, self.repeated, self.taken, self.lost
+        )
+    }
+}
+
+// Each copy on a line of its own.
+impl<F: Display> fmt::Display for Strays<F> {
+    fn fmt<W: fmt::Write>(&self, f: &mut fmt::Formatter<W>) -> fmt::Result {
+        for frame in &self.lost {
+            write!(f, "\n  lost {frame}")?;
+        }
+        for frame in &self.repeated {
+            write!(f, "\n  repeated {frame}")?;
+        }
+        Ok(())
+    }
+}
+
+impl<F: Display> fmt::Display for Outcome<F> {
+    fn fmt<W: fmt::Write>(&self, f: &mut fmt::Formatter<W>) -> fmt::Result {
+        match self {
+            Outcome::Put { waiting, strays } => write!(f, "put, {waiting} waiting{strays}"),
+            Outcome::Took {
+                frame: Some(frame),
+                strays,
+            } => write!(f, "took {frame}{strays}"),
+            Outcome::Took {
+                frame: None,
+                strays,
+            } => write!(f, "took none{strays}"),
+            Outcome::Shown { waiting, totals } => {
+                write!(f, "{} waiting", waiting.len())?;
+                for frame in waiting {
+                    write!(f, "\n  {frame}")?;
+                }
+                write!(f, "\n{totals}")
             }
-            Change::Payload(PayloadKind::Line) => f.write_str("payload line, no channel"),
-            Change::Payload(PayloadKind::Event) => f.write_str("payload event, no channel"),
-        }
-    }
-}
-
-// The text of a line of input, by its number, that says nothing to do.
-pub fn show_unread(unread: Unread, number: u64, heap: Global) -> Result<String, AllocError> {
-    match unread {
-        Unread::Unclear(wanted) => format!(in heap; "line {number}: expected {wanted}"),
-        Unread::Refused(refusal) => {
-            let code = refusal.number();
-            format!(in heap; "refused {code} {refusal:?}")
-        }
-    }
-}
-
-// Adds the text of each frame, with the same text before it.
-fn push_frames<P: PayloadText>(
-    text: &mut String,
-    before: &str,
-    frames: &[Frame<P>],
-    heap: Global,
-) -> Result<(), AllocError> {
-    for frame in frames {
-        text.push_str(before)?;
-        let frame = show_frame(*frame, heap)?;
-        text.push_str(frame.as_str())?;
-    }
-    Ok(())
-}
-
-// Adds the text of what strayed, each copy on a line of its own.
-fn push_strays<P: PayloadText>(
-    text: &mut String,
-    strays: &Strays<P>,
-    heap: Global,
-) -> Result<(), AllocError> {
-    push_frames(text, "\n  lost ", strays.lost.as_slice(), heap)?;
-    push_frames(text, "\n  repeated ", strays.repeated.as_slice(), heap)
-}
-
-// The text of a take's frame.
-fn show_taken<P: PayloadText>(frame: Option<Frame<P>>, heap: Global) -> Result<String, AllocError> {
-    let Some(frame) = frame else {
-        return String::from_str(heap, "took none");
-    };
-    let frame = show_frame(frame, heap)?;
-    let frame = frame.as_str();
-    format!(in heap; "took {frame}")
-}
-
-// The text of totals.
-fn show_totals(totals: Totals, heap: Global) -> Result<String, AllocError> {
-    let Totals {
-        put,
-        repeated,
-        taken,
-        lost,
-    } = totals;
-    format!(in heap; "put {put}, repeated {repeated}, taken {taken}, lost {lost}")
-}
-
-// The text of what happened, line below line.
-pub fn show_outcome<P: PayloadText>(
-    outcome: Outcome<P>,
-    heap: Global,
-) -> Result<String, AllocError> {
-    match outcome {
-        Outcome::Put { waiting, strays } => {
-            let mut text = format!(in heap; "put, {waiting} waiting")?;
-            push_strays(&mut text, &strays, heap)?;
-            Ok(text)
-        }
-        Outcome::Took { frame, strays } => {
-            let mut text = show_taken(frame, heap)?;
-            push_strays(&mut text, &strays, heap)?;
-            Ok(text)
-        }
-        Outcome::Shown { waiting, totals } => {
-            let count = waiting.len();
-            let mut text = format!(in heap; "{count} waiting")?;
-            push_frames(&mut text, "\n  ", waiting.as_slice(), heap)?;
-            let totals = show_totals(totals, heap)?;
-            text.push_str("\n")?;
-            text.push_str(totals.as_str())?;
-            Ok(text)
         }
     }
 }

@@ -1,4 +1,5 @@
-// The commands of a scene, as they are written: the text of a line to a command.
+// The commands of a scene, as they are written: a line of input to a command.
+use channels::layered::Layer;
 use frames::frame::Frame;
 use frames::refusal::Refusal;
 use frametext::fault::{Expected, Fault};
@@ -6,6 +7,9 @@ use frametext::frame_text::parse_frame;
 use frametext::next_word;
 use frametext::payload_text::PayloadText;
 use std::alloc::{AllocError, Global};
+use std::io;
+use std::io::ErrorKind;
+use std::str::FromStr;
 
 // The most frames that a table has room for.
 pub const MOST_ROOM: usize = 1000;
@@ -18,13 +22,6 @@ pub const MOST_LAYERS: usize = 3;
 pub enum Bottom {
     Line { room: usize },
     Wild { room: usize, seed: u64 },
-}
-
-// What stands over a channel.
-#[derive(Clone, Copy)]
-pub enum Layer {
-    Repeating,
-    Holding,
 }
 
 // What a channel is made of: its bottom, and the layers over it, the lowest first. A place of the list may have none.
@@ -50,17 +47,17 @@ pub enum Change {
 
 // What is done with the present channel.
 #[derive(Drop)]
-pub enum Action<P> {
-    Put(Frame<P>),
+pub enum Action<F> {
+    Put(F),
     Take,
     Show,
 }
 
 // What a line says to do.
 #[derive(Drop)]
-pub enum Command<P> {
+pub enum Command<F> {
     Change(Change),
-    Action(Action<P>),
+    Action(Action<F>),
 }
 
 // What a line should have had.
@@ -79,12 +76,14 @@ pub enum Wanted {
 }
 
 // Why a line says nothing to do.
-#[derive(Clone, Copy)]
+#[derive(Drop)]
 pub enum Unread {
     // This was wanted, and something else stood there.
     Unclear(Wanted),
     // There is no such payload.
     Refused(Refusal),
+    // Memory ran out, or the input cannot be read.
+    Failed(io::Error),
 }
 
 impl From<Wanted> for Unread {
@@ -102,16 +101,20 @@ impl From<Fault> for Unread {
     }
 }
 
-// The same text with one space between its words, and none around them.
-pub fn squeezed(text: &str, heap: Global) -> Result<String, AllocError> {
-    let mut out = String::new(heap);
-    for word in text.split_whitespace() {
-        if !out.is_empty() {
-            out.push_str(" ")?;
+// A line that is no text was read all the same.
+impl From<io::Error> for Unread {
+    fn from(e: io::Error) -> Unread {
+        match e.kind() {
+            ErrorKind::InvalidData => Unread::Unclear(Wanted::Text),
+            _ => Unread::Failed(e),
         }
-        out.push_str(word)?;
     }
-    Ok(out)
+}
+
+impl From<AllocError> for Unread {
+    fn from(e: AllocError) -> Unread {
+        Unread::Failed(io::Error::from(e))
+    }
 }
 
 // Nothing more may follow.
@@ -125,18 +128,8 @@ fn ends(rest: &str) -> Result<(), Wanted> {
 
 // The room that a word gives.
 fn parse_room(word: &str) -> Result<usize, Wanted> {
-    match word.parse::<usize>() {
-        Ok(room) if room <= MOST_ROOM => Ok(room),
-        _ => Err(Wanted::Room),
-    }
-}
-
-// The seed that a word gives.
-fn parse_seed(word: &str) -> Result<u64, Wanted> {
-    match word.parse::<u64>() {
-        Ok(seed) => Ok(seed),
-        Err(_) => Err(Wanted::Seed),
-    }
+    let room = word.parse::<usize>().ok();
+    room.filter(|room| *room <= MOST_ROOM).ok_or(Wanted::Room)
 }
 
 // The bottom that a text begins with, and the text behind it.
@@ -151,57 +144,61 @@ fn next_bottom(text: &str) -> Result<(Bottom, &str), Wanted> {
         "wild" => {
             let (seed, rest) = next_word(rest);
             let room = parse_room(room)?;
-            let seed = parse_seed(seed)?;
+            let seed = seed.parse::<u64>().map_err(|_| Wanted::Seed)?;
             Ok((Bottom::Wild { room, seed }, rest))
         }
         _ => Err(Wanted::Bottom),
     }
 }
 
-// The layer that a text begins with, if it has any words, and the text behind it.
-fn next_layer(text: &str) -> Result<(Option<Layer>, &str), Wanted> {
-    let (word, rest) = next_word(text);
+// The layer that a word names.
+fn parse_layer(word: &str) -> Result<Layer, Wanted> {
     match word {
-        "" => Ok((None, rest)),
-        "repeating" => Ok((Some(Layer::Repeating), rest)),
-        "holding" => Ok((Some(Layer::Holding), rest)),
+        "repeating" => Ok(Layer::Repeating),
+        "holding" => Ok(Layer::Holding),
         _ => Err(Wanted::Layer),
     }
 }
 
-// The pile that a text names, from the bottom up.
-fn parse_pile(text: &str) -> Result<Pile, Wanted> {
-    let (bottom, rest) = next_bottom(text)?;
-    let (first, rest) = next_layer(rest)?;
-    let (second, rest) = next_layer(rest)?;
-    let (third, rest) = next_layer(rest)?;
-    if !rest.is_empty() {
-        return Err(Wanted::FewLayers);
+// As `wild 16 7 repeating holding`, from the bottom up.
+impl FromStr for Pile {
+    type Err = Wanted;
+
+    fn from_str(text: &str) -> Result<Pile, Wanted> {
+        let (bottom, rest) = next_bottom(text)?;
+        let mut layers = [None; MOST_LAYERS];
+        let mut words = rest.split_whitespace();
+        for (layer, word) in layers.iter_mut().zip(words.by_ref()) {
+            *layer = Some(parse_layer(word)?);
+        }
+        if words.next().is_some() {
+            return Err(Wanted::FewLayers);
+        }
+        Ok(Pile { bottom, layers })
     }
-    Ok(Pile {
-        bottom,
-        layers: [first, second, third],
-    })
 }
 
-// The kind of payload that a text names.
-fn parse_payload_kind(text: &str) -> Result<PayloadKind, Wanted> {
-    let (word, rest) = next_word(text);
-    let kind = match word {
-        "line" => PayloadKind::Line,
-        "event" => PayloadKind::Event,
-        _ => return Err(Wanted::PayloadKind),
-    };
-    ends(rest)?;
-    Ok(kind)
+impl FromStr for PayloadKind {
+    type Err = Wanted;
+
+    fn from_str(text: &str) -> Result<PayloadKind, Wanted> {
+        let (word, rest) = next_word(text);
+        let kind = match word {
+            "line" => PayloadKind::Line,
+            "event" => PayloadKind::Event,
+            _ => return Err(Wanted::PayloadKind),
+        };
+        ends(rest)?;
+        Ok(kind)
+    }
 }
 
 // The command that a text says: its words one space apart, and nothing around them.
-pub fn parse_command<P: PayloadText>(text: &str) -> Result<Command<P>, Unread> {
+fn parse_command<P: PayloadText>(text: &str) -> Result<Command<Frame<P>>, Unread> {
     let (word, rest) = next_word(text);
     match word {
-        "channel" => Ok(Command::Change(Change::Channel(parse_pile(rest)?))),
-        "payload" => Ok(Command::Change(Change::Payload(parse_payload_kind(rest)?))),
+        "channel" => Ok(Command::Change(Change::Channel(rest.parse()?))),
+        "payload" => Ok(Command::Change(Change::Payload(rest.parse()?))),
         "put" => Ok(Command::Action(Action::Put(parse_frame(rest)?))),
         "take" => {
             ends(rest)?;
@@ -213,4 +210,20 @@ pub fn parse_command<P: PayloadText>(text: &str) -> Result<Command<P>, Unread> {
         }
         _ => Err(Unread::Unclear(Wanted::Command)),
     }
+}
+
+// The command of a line of input; none in a blank line or a comment. `framewords` begins so too: in a library it would owe a contract, and no clause of the
+// standard library says which words splitting gives.
+pub fn read_line<P: PayloadText>(
+    line: io::Result<String>,
+    heap: Global,
+) -> Result<Option<Command<Frame<P>>>, Unread> {
+    let line = line?;
+    let words: Vec<&str> = line.as_str().split_whitespace().collect(heap)?;
+    let text = words.join(heap, " ")?;
+    let text = text.as_str();
+    if text.is_empty() || text.starts_with('#') {
+        return Ok(None);
+    }
+    parse_command(text).map(Some)
 }

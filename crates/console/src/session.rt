@@ -1,18 +1,21 @@
-// The lines that are read, and the answers to them. Nothing says that an input ends, so a loop over it counts its turns.
-use crate::report::show_unread;
-use crate::script::{Command, Unread, Wanted, parse_command, squeezed};
+// The lines that are read, and the answers to them.
+ghost use Rattle.console.specs.Input.{ReadsOn};
+
+use crate::script::{Action, Change, Command, Unread, read_line};
+use frames::frame::Frame;
 use frametext::payload_text::PayloadText;
 use std::alloc::Global;
 use std::fmt::Display;
 use std::io;
-use std::io::{BufRead, BufReader, ErrorKind, Lines, Stdin};
+use std::io::{BufRead, BufReader, Lines, Stdin};
+use std::num::Saturating;
 
 // What is left of the input, and how many lines of it were read.
 #[derive(Drop)]
 pub struct Session {
     rt: HostRuntime,
     lines: Lines<BufReader<Stdin>>,
-    number: u64,
+    number: Saturating<u64>,
 }
 
 impl Session {
@@ -22,7 +25,7 @@ impl Session {
         Ok(Session {
             rt,
             lines,
-            number: 0,
+            number: Saturating(0),
         })
     }
 
@@ -38,40 +41,28 @@ impl Session {
 
     // Answers that the last line says nothing to do.
     pub fn tell_unread(&self, unread: Unread) -> io::Result<()> {
-        self.tell(show_unread(unread, self.number, self.heap())?)
-    }
-
-    // The next line that is neither blank nor a comment; none at the end of the input.
-    fn next_text(&mut self) -> io::Result<Option<String>> {
-        for _ in 0..u64::MAX {
-            let Some(line) = self.lines.next() else {
-                return Ok(None);
-            };
-            self.number = self.number.saturating_add(1);
-            match line {
-                Ok(line) => {
-                    let text = squeezed(line.as_str(), self.heap())?;
-                    if !text.is_empty() && !text.as_str().starts_with('#') {
-                        return Ok(Some(text));
-                    }
-                }
-                Err(e) => match e.kind() {
-                    ErrorKind::InvalidData => self.tell_unread(Unread::Unclear(Wanted::Text))?,
-                    _ => return Err(e),
-                },
-            }
+        let number = self.number;
+        match unread {
+            Unread::Unclear(wanted) => println!(self.rt; "line {number}: expected {wanted}"),
+            Unread::Refused(refusal) => println!(self.rt; "refused {refusal}"),
+            Unread::Failed(e) => Err(e),
         }
-        Ok(None)
     }
 
-    // The next command; a line that has none is answered on the way. None at the end of the input.
-    pub fn next_command<P: PayloadText>(&mut self) -> io::Result<Option<Command<P>>> {
-        for _ in 0..u64::MAX {
-            let Some(text) = self.next_text()? else {
-                return Ok(None);
-            };
-            match parse_command(text.as_str()) {
-                Ok(command) => return Ok(Some(command)),
+    // Reads on up to a change, which it gives; none at the end of the input. Each action on the way is passed to `act`.
+    pub fn next_change<P: PayloadText, F: FnMut(&Session, Action<Frame<P>>) -> io::Result<()>>(
+        &mut self,
+        mut act: F,
+    ) -> io::Result<Option<Change>>
+        requires { F.IsAlwaysCallable act }
+        ensures { ReadsOn self.old result self.new }
+    {
+        while let Some(line) = self.lines.next() {
+            self.number += 1;
+            match read_line::<P>(line, self.heap()) {
+                Ok(Some(Command::Action(action))) => act(self, action)?,
+                Ok(Some(Command::Change(change))) => return Ok(Some(change)),
+                Ok(None) => {}
                 Err(unread) => self.tell_unread(unread)?,
             }
         }

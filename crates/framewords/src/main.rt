@@ -2,24 +2,24 @@
 #![tactic(auto)]
 
 mod session;
+mod unanswered;
 
 use session::Session;
 use std::io;
-use std::io::{BufRead, BufReader, ErrorKind};
+use std::io::{BufRead, BufReader};
+use unanswered::Unanswered;
 
 fn main(rt: HostRuntime) -> io::Result<()> {
     let heap = rt.alloc();
-    let mut session = Session::new();
-    for line in BufReader::new(heap, rt.stdin())?.lines(heap) {
-        let told = match line {
-            Ok(line) => session.answer(line.as_str(), heap)?,
-            Err(e) => match e.kind() {
-                ErrorKind::InvalidData => session.answer_no_text(heap)?,
-                _ => return Err(e),
-            },
-        };
-        if let Some(told) = told {
-            rt.println(told)?;
+    let mut session = Session::new(heap)?;
+    let lines = BufReader::new(heap, rt.stdin())?.lines(heap);
+    for (number, line) in (1u64..).zip(lines) {
+        match session.answer(line) {
+            Ok(Some(told)) => rt.println(told)?,
+            Ok(None) => {}
+            Err(Unanswered::Unclear(wanted)) => println!(rt; "line {number}: expected {wanted}")?,
+            Err(Unanswered::Refused(refusal)) => println!(rt; "refused {refusal}")?,
+            Err(Unanswered::Failed(e)) => return Err(e),
         }
     }
     Ok(())
