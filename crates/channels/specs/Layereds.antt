@@ -1,11 +1,16 @@
 -- What a channel under a layer chosen as the program runs is. Assumes nothing.
-use Rattle.std.specs.Prelude.{List, Some, None, Option}
+use Rattle.std.specs.Prelude.{ℕ, List, Some, None, Option, codes}
 use Rattle.channels.specs.Repeats.{repeat_waits, RepeatPuts, RepeatTakes}
 use Rattle.channels.specs.Holds.{hold_waits, HoldPuts, HoldTakes}
 use Rattle.channels.specs.declared.layered.Layer.{Layer}
 use Rattle.channels.specs.declared.layered.Layer.TheVariants.{Repeating, Holding}
 use Rattle.channels.specs.declared.layered.Layered.{Layered}
 use Rattle.channels.specs.declared.layered.Layered.TheVariants as over
+
+-- The name of a layer.
+abbrev pub layer_text : Layer → List ℕ
+layer_text Repeating = codes "repeating"
+layer_text Holding = codes "holding"
 
 module _ {C F : Type 0} where
   -- A channel under that layer, which holds no frame yet.

@@ -1,18 +1,30 @@
 // A layer that is chosen as the program runs.
-ghost use Rattle.std.specs.Prelude.{◌≡◌};
-ghost use Rattle.channels.specs.Layereds.{layered_over, layered_waits, LayeredPuts, LayeredTakes};
+ghost use Rattle.std.specs.Prelude.{◌≡◌, Some};
+ghost use Rattle.channels.specs.Layereds.{layer_text, layered_over, layered_waits, LayeredPuts, LayeredTakes};
 ghost use Rattle.channels.specs.LayeredLaws.{layered_lawful};
 
 use crate::channel::Channel;
 use crate::holding::Holding;
 use crate::look::Look;
 use crate::repeating::Repeating;
+use std::fmt;
 
 // The layers that can stand over a channel.
 #[derive(Clone, Copy, PartialEq, Eq, Debug)]
 pub enum Layer {
     Repeating,
     Holding,
+}
+
+impl fmt::Display for Layer {
+    ghost output = { λ layer. Some (layer_text layer) };
+
+    fn fmt<W: fmt::Write>(&self, f: &mut fmt::Formatter<W>) -> fmt::Result {
+        f.write_str(match self {
+            Layer::Repeating => "repeating",
+            Layer::Holding => "holding",
+        })
+    }
 }
 
 // A channel under a layer that is chosen as the program runs, or under none.

@@ -29,7 +29,7 @@ pub(crate) fn put_two_take_one<F: Copy, C: Channel<F>>(
     channel.take()
 }
 
-// The same over a wild channel, with each frame held back and then put twice.
+// The same over a wild channel, with each frame held back and then put twice. A pile's type is what this and the next function show, so there are two.
 pub(crate) fn over_wild<F: Copy>(table: &mut [F], seed: u64, first: F, second: F) -> Option<F>
     ensures { IfSome result (λ f. (first ≡ f) ⊎ (second ≡ f)) }
 {

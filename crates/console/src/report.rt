@@ -1,7 +1,6 @@
 // What happened, as text.
 use crate::player::{Outcome, Strays, Totals};
 use crate::script::{Bottom, Change, MOST_LAYERS, MOST_ROOM, PayloadKind, Pile, Wanted};
-use channels::layered::Layer;
 use std::fmt;
 use std::fmt::Display;
 
@@ -35,10 +34,7 @@ impl fmt::Display for Pile {
     fn fmt<W: fmt::Write>(&self, f: &mut fmt::Formatter<W>) -> fmt::Result {
         write!(f, "{}", self.bottom)?;
         for layer in self.layers.iter().flatten() {
-            match layer {
-                Layer::Repeating => f.write_str(" repeating")?,
-                Layer::Holding => f.write_str(" holding")?,
-            }
+            write!(f, " {layer}")?;
         }
         Ok(())
     }

@@ -75,7 +75,8 @@ pub enum Wanted {
     Part(Expected),
 }
 
-// Why a line says nothing to do.
+// Why a line says nothing to do. `framewords` has one like it over its own `Wanted`: in a generic enum `From<W>` and `From<Refusal>` would overlap, and `?`
+// could no longer make both.
 #[derive(Drop)]
 pub enum Unread {
     // This was wanted, and something else stood there.

@@ -11,7 +11,7 @@ use unanswered::Unanswered;
 
 fn main(rt: HostRuntime) -> io::Result<()> {
     let heap = rt.alloc();
-    let mut session = Session::new(heap)?;
+    let mut session = Session::new(heap);
     let lines = BufReader::new(heap, rt.stdin())?.lines(heap);
     for (number, line) in (1u64..).zip(lines) {
         match session.answer(line) {

@@ -8,26 +8,26 @@ use frametext::payload_text::PayloadText;
 use frametext::word_text::{parse_word, show_words};
 use payloads::event::LiftEvent;
 use payloads::line::ProfileLine;
-use std::alloc::{AllocError, Global};
+use std::alloc::Global;
 use std::io;
 
 // The most words that a frame takes.
 const LONGEST: usize = 7;
 
-// The run that frames are written into.
+// The room that frames are written into, in words.
 #[derive(Drop)]
 pub struct Session {
     heap: Global,
-    run: Vec<u32>,
+    room: usize,
 }
 
 impl Session {
     // A session with room for every frame.
-    pub fn new(heap: Global) -> Result<Session, AllocError> {
-        Ok(Session {
+    pub fn new(heap: Global) -> Session {
+        Session {
             heap,
-            run: vec![in heap; 0; LONGEST]?,
-        })
+            room: LONGEST,
+        }
     }
 
     // The answer to words that should be a frame.
@@ -39,9 +39,11 @@ impl Session {
     }
 
     // The answer to a text that should be a frame: its words.
-    fn write<P: PayloadText>(&mut self, text: &str) -> Result<String, Unanswered> {
-        let count = write_frame(parse_frame::<P>(text)?, self.run.as_mut_slice())?;
-        Ok(show_words(&self.run[..count], self.heap)?)
+    fn write<P: PayloadText>(&self, text: &str) -> Result<String, Unanswered> {
+        let frame = parse_frame::<P>(text)?;
+        let mut run = vec![in self.heap; 0; self.room]?;
+        let count = write_frame(frame, run.as_mut_slice())?;
+        Ok(show_words(&run[..count], self.heap)?)
     }
 
     // The answer to a new room.
@@ -51,7 +53,7 @@ impl Session {
             return Err(Wanted::Part(Expected::End).into());
         }
         let room = room.min(LONGEST);
-        self.run.resize(room, 0)?;
+        self.room = room;
         Ok(format!(in self.heap; "room for {room} words")?)
     }
 
