@@ -13,7 +13,8 @@ pub fn put_all<F: Copy, C: Channel<F>>(channel: &mut C, frames: &[F])
     }
 }
 
-// Puts the first `count` frames of an array, in order, or all of them if it has no more.
+// Puts the first `count` frames of an array, in order, or all of them if it has no more. The count stands beside the array for callers that fill one in part
+// and take no memory.
 pub fn put_first<F: Copy, C: Channel<F>, const N: usize>(
     channel: &mut C,
     frames: &[F; N],

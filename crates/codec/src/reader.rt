@@ -102,7 +102,7 @@ fn read_token<P: Payload>(ws: &[u32]) -> Result<Body<P>, Refusal>
     Ok(Body::Token { s, r, payload })
 }
 
-// The body of that kind of frame in the words after the head.
+// The body of that kind of frame in the words after the head. A match, and no table of functions: the four kinds are all there are.
 fn read_body<P: Payload>(kind: Kind, ws: &[u32]) -> Result<Body<P>, Refusal>
     ensures { answer result ≡ body_in P.SIZE P.reads kind ws.now }
 {

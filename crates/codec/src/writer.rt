@@ -49,7 +49,7 @@ fn head_of<P: Payload>(frame: Frame<P>, count: usize) -> Head
     Head::new(Kind::from(frame.body), frame.sender, frame.addressee, count)
 }
 
-// Writes the payload's words over the front of the run.
+// Writes the payload's words over the front of the run. Three functions ask for room, each for another count of words, so no type can hold it for all.
 fn put_payload<P: Payload>(payload: P, run: &mut [u32])
     requires { P.SIZE ≤ length run.old }
     ensures { run.new ≡ map (word 12) (P.words payload) ++ drop P.SIZE run.old }

@@ -37,21 +37,21 @@ name_of PartRange = codes "PartRange"
 abbrev pub refusal_text : Refusal → List ℕ
 refusal_text e = decimal (number_of e) ++ (codes " " ++ name_of e)
 
--- The text of a request of slots.
-abbrev pub req_slots_text : ℕ → ℕ → ℕ → List ℕ
-req_slots_text s n l = codes "REQSLOTS s=" ++ (decimal s ++ (codes " n=" ++ (decimal n ++ (codes " l=" ++ decimal l))))
-
 -- A text behind the two nodes of a frame.
 abbrev pub routed : ℕ → ℕ → List ℕ → List ℕ
-routed sender addressee bs = decimal sender ++ (codes ">" ++ (decimal addressee ++ (codes " " ++ bs)))
+routed sender addressee bs = decimal sender ++ (codes ">" ++ (decimal addressee ++ bs))
 
 module _ {P : Type 0} (spelling : P → List ℕ) where
-  -- The text of a body, where `spelling` gives that of a payload.
+  -- The text of a body by itself, where `spelling` gives that of a payload.
+  abbrev pub bare_body_text : Body P → List ℕ
+  bare_body_text (ReqSlots s n l) = codes "REQSLOTS s=" ++ (decimal s ++ (codes " n=" ++ (decimal n ++ (codes " l=" ++ decimal l))))
+  bare_body_text (Slots s r n) = codes "SLOTS s=" ++ (decimal s ++ (codes " r=" ++ (decimal r ++ (codes " n=" ++ decimal n))))
+  bare_body_text (Token s r p) = codes "TOKEN s=" ++ (decimal s ++ (codes " r=" ++ (decimal r ++ (codes " " ++ spelling p))))
+  bare_body_text (Ack s r) = codes "ACK s=" ++ (decimal s ++ (codes " r=" ++ decimal r))
+
+  -- The text of a body, behind a space.
   abbrev pub body_text : Body P → List ℕ
-  body_text (ReqSlots s n l) = req_slots_text s n l
-  body_text (Slots s r n) = codes "SLOTS s=" ++ (decimal s ++ (codes " r=" ++ (decimal r ++ (codes " n=" ++ decimal n))))
-  body_text (Token s r p) = codes "TOKEN s=" ++ (decimal s ++ (codes " r=" ++ (decimal r ++ (codes " " ++ spelling p))))
-  body_text (Ack s r) = codes "ACK s=" ++ (decimal s ++ (codes " r=" ++ decimal r))
+  body_text b = codes " " ++ bare_body_text b
 
   -- The text of a frame.
   abbrev pub frame_text : Frame P → List ℕ
@@ -60,10 +60,10 @@ module _ {P : Type 0} (spelling : P → List ℕ) where
 -- What is known of these texts where `shown` is what is known of a payload's: of a token whose payload has no known text, nothing.
 module _ {P : Type 0} (shown : P → Option (List ℕ)) where
   abbrev pub body_shown : Body P → Option (List ℕ)
-  body_shown (ReqSlots s n l) = Some (body_text {P = P} (λ _. []) (ReqSlots s n l))
-  body_shown (Slots s r n) = Some (body_text {P = P} (λ _. []) (Slots s r n))
-  body_shown (Token s r p) = option_map (λ t. body_text (λ _. t) (Token s r p)) (shown p)
-  body_shown (Ack s r) = Some (body_text {P = P} (λ _. []) (Ack s r))
+  body_shown (ReqSlots s n l) = Some (bare_body_text {P = P} (λ _. []) (ReqSlots s n l))
+  body_shown (Slots s r n) = Some (bare_body_text {P = P} (λ _. []) (Slots s r n))
+  body_shown (Token s r p) = option_map (λ t. bare_body_text (λ _. t) (Token s r p)) (shown p)
+  body_shown (Ack s r) = Some (bare_body_text {P = P} (λ _. []) (Ack s r))
 
   abbrev pub frame_shown : Frame P → Option (List ℕ)
-  frame_shown f = option_map (routed f.sender f.addressee) (body_shown f.body)
+  frame_shown f = option_map (λ t. routed f.sender f.addressee (codes " " ++ t)) (body_shown f.body)

@@ -37,7 +37,7 @@ fn first_refusal(x: LineFrame, room: usize, refusal: Refusal) -> Refusal
     refusal
 }
 
-// Writes the frame that the numbers give.
+// Writes the frame that the numbers give. A match, since a proof learns too little of the closure of `map_err` here.
 fn write(x: LineFrame, run: &mut [u32]) -> Result<usize, Refusal>
     ensures told { answer result ≡ line_writes x (given x) (length run.old) }
     ensures after { run.new ≡ line_written (given x) run.old }

@@ -9,7 +9,7 @@ use Rattle.frames.specs.declared.frame.Body.{Body}
 use Rattle.frames.specs.declared.frame.Body.TheVariants.{ReqSlots, Slots, Token, Ack}
 use Rattle.frametext.specs.Scan.{first_word, other_words}
 use Rattle.frametext.specs.Told.{Told, tells, unread}
-use Rattle.frames.specs.Texts.{routed, body_text, frame_text, body_shown, frame_shown}
+use Rattle.frames.specs.Texts.{routed, bare_body_text, frame_text, body_shown, frame_shown}
 use Rattle.frametext.specs.Frames.{body_held, Held, kind_in, frame_in}
 use Rattle.frametext.specs.Cuts.{Lacks, before-cut, behind-cut, before-all, behind-none}
 use Rattle.frametext.specs.Digits.{number_back, decimal-lacks}
@@ -17,12 +17,12 @@ use Rattle.frametext.specs.Digits.{number_back, decimal-lacks}
 -- what is known of a frame's text is the whole of it, where that is so of each payload
 pub frame_known : {P : Type 0} (shown : P → Option (List ℕ)) (spelling : P → List ℕ) → ((x : P) → shown x ≡ Some (spelling x))
     → (f : Frame P) → frame_shown shown f ≡ Some (frame_text spelling f)
-frame_known {P = P} shown spelling law f = ap (option_map (routed f.sender f.addressee)) (body_known f.body)
+frame_known {P = P} shown spelling law f = ap (option_map (λ t. routed f.sender f.addressee (codes " " ++ t))) (body_known f.body)
   where
-    body_known : (b : Body P) → body_shown shown b ≡ Some (body_text spelling b)
+    body_known : (b : Body P) → body_shown shown b ≡ Some (bare_body_text spelling b)
     body_known (ReqSlots s n l) = refl
     body_known (Slots s r n) = refl
-    body_known (Token s r p) = ap (option_map (λ t. body_text (λ _. t) (Token s r p))) (law p)
+    body_known (Token s r p) = ap (option_map (λ t. bare_body_text (λ _. t) (Token s r p))) (law p)
     body_known (Ack s r) = refl
 
 different : (xs ys : List ℕ) → (xs ≡ ys → ⊥) → bytes_eq xs ys ≡ false
@@ -61,7 +61,7 @@ module _ {P : Type 0} (spelling : P → List ℕ) (spelled : List ℕ → Told P
   words_in : List ℕ → Told (Body P)
   words_in bs = kind_in spelled (first_word bs) (other_words bs)
 
-  body_respelled : (b : Body P) → body_held b → words_in (body_text spelling b) ≡ tells b
+  body_respelled : (b : Body P) → body_held b → words_in (bare_body_text spelling b) ≡ tells b
   unfolding words_in
   body_respelled (ReqSlots s n l) held =
       let rest = codes "n=" ++ (decimal n ++ (codes " l=" ++ decimal l)) in
@@ -116,7 +116,7 @@ module _ {P : Type 0} (spelling : P → List ℕ) (spelled : List ℕ → Told P
       let a = f.sender in
       let b = f.addressee in
       let route = decimal a ++ (codes ">" ++ decimal b) in
-      let body = body_text spelling f.body in
+      let body = bare_body_text spelling f.body in
       let apart : frame_text spelling f ≡ route ++ (32 ∷ body) =
       sym (append_assoc (decimal a) (codes ">" ++ decimal b) (32 ∷ body)) in
       let spaceless = route_no_space a b held.0 held.1 in

@@ -12,7 +12,7 @@ use Rattle.payloads.specs.Ranges.{sort_fits}
 use Rattle.payloads.specs.LineLaws.{line_of-parts}
 use Rattle.payloads.specs.EventLaws.{event_of-parts, in_range}
 use Rattle.frametext.specs.Told.{tells}
-use Rattle.payloads.specs.Texts.{line_text, sort_text, event_text}
+use Rattle.payloads.specs.Texts.{line_text, bare_sort_text, event_text}
 use Rattle.frametext.specs.Payloads.{line_in, sort_in, event_in}
 use Rattle.frametext.specs.Cuts.{Lacks, before-cut, behind-cut}
 use Rattle.frametext.specs.Digits.{number_back, signed_back, decimal-lacks}
@@ -42,7 +42,7 @@ line_respelled x =
     )
 
 -- a sort in range is told by its text
-sort_respelled : (s : Sort) → sort_fits s ≡ true → sort_in (sort_text s) ≡ tells s
+sort_respelled : (s : Sort) → sort_fits s ≡ true → sort_in (bare_sort_text s) ≡ tells s
 sort_respelled AlarmPressed fits = refl
 sort_respelled (DoorFault code) fits =
     let top = leb-true code 255 (and_parts (nat_le 1 code) (nat_le code 255) fits).1 in
@@ -53,7 +53,7 @@ pub event_respelled : (x : LiftEvent) → event_in (event_text x) ≡ tells x
 event_respelled x =
     let r = in_range x in
     let small : x.lift < 2 ^ 32 = omega (arith, r.lift) in
-    let rest = sort_text x.sort in
+    let rest = bare_sort_text x.sort in
     rw (
       before-cut 32 (decimal x.lift) rest (lacks_space x.lift small),
       number_back 32 x.lift small (omega arith),

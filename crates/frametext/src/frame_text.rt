@@ -90,7 +90,7 @@ fn parse_ack<P: PayloadText>(text: &str) -> Result<Body<P>, Fault>
     Ok(Body::Ack { s, r })
 }
 
-// The body of that kind that a text shows.
+// The body of that kind that a text shows. A match, as in the codec: a table would name the same four kinds.
 #[tactic(auto, using(crate::proofs::Framed::other_kind))]
 fn parse_kind<P: PayloadText>(kind: &str, text: &str) -> Result<Body<P>, Fault>
     ensures { told result ≡ kind_in P.spelled kind.now text.now }

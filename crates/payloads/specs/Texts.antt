@@ -13,15 +13,19 @@ parts_text place step = codes "place=" ++ (decimal place ++ (codes " step=" ++ s
 abbrev pub line_text : ProfileLine → List ℕ
 line_text x = parts_text x.place x.step
 
--- A sort, as `alarm`, `door=7` or `floor=-3`.
+-- A sort by itself, as `alarm`, `door=7` or `floor=-3`.
+abbrev pub bare_sort_text : Sort → List ℕ
+bare_sort_text AlarmPressed = codes "alarm"
+bare_sort_text (DoorFault code) = codes "door=" ++ decimal code
+bare_sort_text (Stopped floor) = codes "floor=" ++ signed_decimal floor
+
+-- A sort, behind a space.
 abbrev pub sort_text : Sort → List ℕ
-sort_text AlarmPressed = codes "alarm"
-sort_text (DoorFault code) = codes "door=" ++ decimal code
-sort_text (Stopped floor) = codes "floor=" ++ signed_decimal floor
+sort_text s = codes " " ++ bare_sort_text s
 
 -- An event, as `lift=12 floor=-3`.
 abbrev pub happening_text : ℕ → Sort → List ℕ
-happening_text lift sort = codes "lift=" ++ (decimal lift ++ (codes " " ++ sort_text sort))
+happening_text lift sort = codes "lift=" ++ (decimal lift ++ sort_text sort)
 
 abbrev pub event_text : LiftEvent → List ℕ
 event_text x = happening_text x.lift x.sort

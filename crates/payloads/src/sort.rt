@@ -1,6 +1,6 @@
 // What happens at a lift.
 ghost use Rattle.std.specs.Prelude.{Some};
-ghost use Rattle.payloads.specs.Texts.{sort_text};
+ghost use Rattle.payloads.specs.Texts.{bare_sort_text};
 
 use std::fmt;
 
@@ -17,7 +17,7 @@ pub enum Sort {
 
 // As `alarm`, `door=7` or `floor=-3`.
 impl fmt::Display for Sort {
-    ghost output = { λ s. Some (sort_text s) };
+    ghost output = { λ s. Some (bare_sort_text s) };
 
     fn fmt<W: fmt::Write>(&self, f: &mut fmt::Formatter<W>) -> fmt::Result {
         match self {

@@ -12,7 +12,7 @@ use frames::refusal::Refusal;
 // The last stamp, 2^112 - 1.
 const LAST_STAMP: u128 = 0xffff_ffff_ffff_ffff_ffff_ffff_ffff;
 
-// The stamp with that value, if it is in range.
+// The stamp with that value, if it is in range: as for a line, over a part of its own.
 fn stamp_of(value: u128) -> Option<Stamp>
     ensures { result ≡ stamp_of value }
 {

@@ -40,7 +40,7 @@ fn event_fits(lift: u32, sort: Sort) -> bool
     lift <= 65535 && sort_fits(sort)
 }
 
-// The event with these parts, if they are in range.
+// The event with these parts, if they are in range: as for a line, over parts of its own.
 fn event_of(lift: u32, sort: Sort) -> Option<LiftEvent>
     ensures { result ≡ event_of lift sort }
 {
