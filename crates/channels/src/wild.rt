@@ -108,6 +108,7 @@ impl<'a, F: Copy> Channel<F> for Wild<'a, F> {
     fn put(&mut self, frame: F)
         ensures { WildPuts self.old frame self.new }
     {
+        // Remainders, and no kinds: each stands for how often the frame is added.
         match draw(&mut self.number) % 4 {
             0 => {}
             1 => {

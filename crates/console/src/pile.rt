@@ -48,6 +48,7 @@ pub fn play_on<P: PayloadText + PartialEq>(
         return session.next_change::<P, _>(|s, _| s.tell_unread(Wanted::Channel.into()));
     };
     let layers = pile.layers;
+    // An arm for each bottom: a channel's type is the bottom's, and the table has to outlive it.
     match pile.bottom {
         Bottom::Line { room } => {
             let mut table = blank_table::<P>(room, session.heap())?;

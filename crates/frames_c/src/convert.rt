@@ -8,7 +8,7 @@ use frames::frame::{Body, Frame};
 use frames::refusal::Refusal;
 use payloads::line::ProfileLine;
 
-// The body that the numbers give.
+// The body that the numbers give; its kind is a number, since C gives it.
 fn body_given(x: LineFrame) -> Result<Body<ProfileLine>, Refusal>
     ensures { answer result ≡ body_given x }
 {

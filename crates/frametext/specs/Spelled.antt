@@ -1,6 +1,6 @@
 -- Payloads read back from their text.
-use Rattle.std.specs.Prelude.{◌≡◌, ℕ, ◌^◌, ◌<◌, true, ◌&&◌, ◌++◌, ℤ, pos, negsuc, codes, decimal, FitsSigned, int_le, nat_le, refl}
-use Rattle.std.proofs.Common.{arith}
+use Rattle.std.specs.Prelude.{◌≡◌, ℕ, ◌^◌, ◌<◌, true, ◌&&◌, ◌∷◌, ◌++◌, drop, ℤ, pos, negsuc, codes, decimal, FitsSigned, int_le, nat_le, refl}
+use Rattle.std.proofs.Common.{ap, ◌∙◌, arith}
 use Rattle.std.specs.Int.{w32}
 use Rattle.std.specs.Fmt.{signed_decimal}
 use Rattle.std.proofs.lemmas.Bool.{leb-true, and_parts}
@@ -12,7 +12,7 @@ use Rattle.payloads.specs.Ranges.{sort_fits}
 use Rattle.payloads.specs.LineLaws.{line_of-parts}
 use Rattle.payloads.specs.EventLaws.{event_of-parts, in_range}
 use Rattle.frametext.specs.Told.{tells}
-use Rattle.payloads.specs.Texts.{line_text, bare_sort_text, event_text}
+use Rattle.payloads.specs.Texts.{line_text, sort_text, event_text}
 use Rattle.frametext.specs.Payloads.{line_in, sort_in, event_in}
 use Rattle.frametext.specs.Cuts.{Lacks, before-cut, behind-cut}
 use Rattle.frametext.specs.Digits.{number_back, signed_back, decimal-lacks}
@@ -41,20 +41,26 @@ line_respelled x =
       line_of-parts x,
     )
 
--- a sort in range is told by its text
-sort_respelled : (s : Sort) → sort_fits s ≡ true → sort_in (bare_sort_text s) ≡ tells s
+-- a sort in range is told by its text, which begins with a space
+sort_respelled : (s : Sort) → sort_fits s ≡ true → sort_in (drop 1 (sort_text s)) ≡ tells s
 sort_respelled AlarmPressed fits = refl
 sort_respelled (DoorFault code) fits =
     let top = leb-true code 255 (and_parts (nat_le 1 code) (nat_le code 255) fits).1 in
     rw (number_back 32 code (omega arith) (omega arith))
 sort_respelled (Stopped floor) fits = rw (signed_back floor (within32 63 191 floor fits (omega arith) (omega arith)))
 
+sort_spaced : (s : Sort) → sort_text s ≡ 32 ∷ drop 1 (sort_text s)
+sort_spaced AlarmPressed = refl
+sort_spaced (DoorFault code) = refl
+sort_spaced (Stopped floor) = refl
+
 pub event_respelled : (x : LiftEvent) → event_in (event_text x) ≡ tells x
 event_respelled x =
     let r = in_range x in
     let small : x.lift < 2 ^ 32 = omega (arith, r.lift) in
-    let rest = bare_sort_text x.sort in
-    rw (
+    let rest = drop 1 (sort_text x.sort) in
+    ap (λ bs. event_in (codes "lift=" ++ (decimal x.lift ++ bs))) (sort_spaced x.sort)
+    ∙ rw (
       before-cut 32 (decimal x.lift) rest (lacks_space x.lift small),
       number_back 32 x.lift small (omega arith),
       behind-cut 32 (decimal x.lift) rest (lacks_space x.lift small),

@@ -20,7 +20,7 @@ pub enum Label {
 }
 
 impl Label {
-    // The text of a label.
+    // The text of a label. Stripping a prefix wants it as a `&str`, which printing does not give.
     pub(crate) fn text(self) -> &'static str
         ensures { result.now ≡ label_text self }
     {

@@ -12,7 +12,7 @@ use crate::scan::{cut, ends, field, next_word, number};
 use frames::frame::{Body, Frame};
 use std::alloc::{AllocError, Global};
 
-// The text of a frame, which reads back as that frame, whatever numbers its types hold.
+// The text of a frame in memory: what the frame prints. It reads back as that frame, whatever numbers its types hold.
 #[tactic(auto, using(crate::proofs::Framed::frame_known))]
 pub fn show_frame<P: PayloadText>(frame: Frame<P>, heap: Global) -> Result<String, AllocError>
     ensures text { IfOk result (λ s. string_bytes s ≡ frame_text P.spelling frame) }
