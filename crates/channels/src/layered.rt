@@ -27,7 +27,7 @@ impl fmt::Display for Layer {
     }
 }
 
-// A channel under a layer that is chosen as the program runs, or under none.
+// A channel under a layer that is chosen as the program runs, or under none. An enum, since no contract speaks of a `dyn` of a trait with a parameter.
 #[derive(Drop)]
 pub enum Layered<C, F> {
     Bare(C),

@@ -1,4 +1,4 @@
-// Parts of a word.
+// Parts of a word. Payloads have the same for their halves: a library for both would have to make functions public that ask for a width in range.
 ghost use Rattle.std.specs.Prelude.{◌≡◌, ◌+◌, ◌-◌, ◌*◌, ◌/◌, ◌%◌, ◌^◌, ◌<◌};
 
 // `low` in the low `shift` bits of a word, `high` in those above them.

@@ -7,4 +7,5 @@ mod word;
 mod writer;
 
 pub use reader::read_frame;
+pub use word::Kind;
 pub use writer::write_frame;

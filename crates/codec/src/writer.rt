@@ -72,7 +72,7 @@ fn put_token<P: Payload>(head: u32, s: u64, r: u64, payload: P, run: &mut [u32])
     put_payload(payload, &mut run[3..]);
 }
 
-// Writes the head and the words after it over the front of the run.
+// Writes the head and the words after it over the front of the run: each kind's in the order of the format, which is what an arm shows.
 fn put_words<P: Payload>(head: u32, body: Body<P>, run: &mut [u32])
     requires fits { body_fits body ≡ true }
     requires room { count_after P.SIZE (kind_of body) < length run.old }

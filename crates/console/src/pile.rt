@@ -48,15 +48,12 @@ pub fn play_on<P: PayloadText + PartialEq>(
         return session.next_change::<P, _>(|s, _| s.tell_unread(Wanted::Channel.into()));
     };
     let layers = pile.layers;
-    // An arm for each bottom: a channel's type is the bottom's, and the table has to outlive it.
+    let (Bottom::Line { room } | Bottom::Wild { room, .. }) = pile.bottom;
+    let mut table = blank_table::<P>(room, session.heap())?;
+    let table = table.as_mut_slice();
+    // An arm for each bottom: a channel's type is its bottom's.
     match pile.bottom {
-        Bottom::Line { room } => {
-            let mut table = blank_table::<P>(room, session.heap())?;
-            attend(Line::new(table.as_mut_slice()), layers, session)
-        }
-        Bottom::Wild { room, seed } => {
-            let mut table = blank_table::<P>(room, session.heap())?;
-            attend(Wild::new(table.as_mut_slice(), seed), layers, session)
-        }
+        Bottom::Line { .. } => attend(Line::new(table), layers, session),
+        Bottom::Wild { seed, .. } => attend(Wild::new(table, seed), layers, session),
     }
 }

@@ -4,8 +4,8 @@ use frames::frame::Frame;
 use frames::refusal::Refusal;
 use frametext::fault::{Expected, Fault};
 use frametext::frame_text::parse_frame;
-use frametext::next_word;
 use frametext::payload_text::PayloadText;
+use frametext::{ends, next_word};
 use std::alloc::{AllocError, Global};
 use std::io;
 use std::io::ErrorKind;
@@ -75,8 +75,8 @@ pub enum Wanted {
     Part(Expected),
 }
 
-// Why a line says nothing to do. `framewords` has one like it over its own `Wanted`: in a generic enum `From<W>` and `From<Refusal>` would overlap, and `?`
-// could no longer make both.
+// Why a line says nothing to do. `framewords` has one like it over its own `Wanted`: in a library a generic enum of both would owe contracts and edits for each
+// `From`, and its `From<W>` would overlap with the `From<Refusal>` there.
 #[derive(Drop)]
 pub enum Unread {
     // This was wanted, and something else stood there.
@@ -118,15 +118,6 @@ impl From<AllocError> for Unread {
     }
 }
 
-// Nothing more may follow.
-fn ends(rest: &str) -> Result<(), Wanted> {
-    if rest.is_empty() {
-        Ok(())
-    } else {
-        Err(Wanted::Part(Expected::End))
-    }
-}
-
 // The room that a word gives.
 fn parse_room(word: &str) -> Result<usize, Wanted> {
     let room = word.parse::<usize>().ok();
@@ -152,7 +143,7 @@ fn next_bottom(text: &str) -> Result<(Bottom, &str), Wanted> {
     }
 }
 
-// The layer that a word names.
+// The layer that a word names. It stands here, since only this program reads names of layers.
 fn parse_layer(word: &str) -> Result<Layer, Wanted> {
     match word {
         "repeating" => Ok(Layer::Repeating),
@@ -180,14 +171,14 @@ impl FromStr for Pile {
 }
 
 impl FromStr for PayloadKind {
-    type Err = Wanted;
+    type Err = Unread;
 
-    fn from_str(text: &str) -> Result<PayloadKind, Wanted> {
+    fn from_str(text: &str) -> Result<PayloadKind, Unread> {
         let (word, rest) = next_word(text);
         let kind = match word {
             "line" => PayloadKind::Line,
             "event" => PayloadKind::Event,
-            _ => return Err(Wanted::PayloadKind),
+            _ => return Err(Wanted::PayloadKind.into()),
         };
         ends(rest)?;
         Ok(kind)

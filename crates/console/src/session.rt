@@ -39,7 +39,7 @@ impl Session {
         self.rt.println(told)
     }
 
-    // Answers that the last line says nothing to do.
+    // Answers that the last line says nothing to do; `framewords` has the same three messages in its loop.
     pub fn tell_unread(&self, unread: Unread) -> io::Result<()> {
         let number = self.number;
         match unread {

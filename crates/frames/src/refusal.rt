@@ -59,7 +59,7 @@ impl Refusal {
         self as u8
     }
 
-    // The name of the refusal.
+    // The name of the refusal. Written out, since no clause speaks of what the derived `Debug` writes.
     fn name(self) -> &'static str
         ensures { result.now ≡ name_of self }
     {

@@ -5,12 +5,12 @@ ghost use Rattle.frames_c.specs.Flat.{given};
 ghost use Rattle.frames_c.specs.Calls.{signed, earliest, line_writes, line_written, line_at, line_count, line_read};
 
 use crate::line_frame::LineFrame;
-use codec::{read_frame, write_frame};
+use codec::{Kind, read_frame, write_frame};
 use frames::frame::{Frame, LAST_CLOCK};
 use frames::refusal::Refusal;
 use payloads::line::ProfileLine;
 
-// A count as it is, a refusal as minus its number.
+// What C takes of an answer: a count as it is, a refusal as minus its number.
 fn signed(told: Result<usize, Refusal>) -> i64
     requires { IfOk told (λ n. n < 2 ^ 63) }
     ensures { result ≡ signed (answer told) }
@@ -25,9 +25,9 @@ fn signed(told: Result<usize, Refusal>) -> i64
 fn first_refusal(x: LineFrame, room: usize, refusal: Refusal) -> Refusal
     ensures { refuses (number_of result) ≡ earliest x room (number_of refusal) }
 {
-    if x.kind != 3 {
+    let Ok(Kind::Token) = Kind::try_from(x.kind) else {
         return refusal;
-    }
+    };
     if x.sender > 255 || x.addressee > 255 || x.s > LAST_CLOCK || x.r > LAST_CLOCK {
         return Refusal::TooLarge;
     }
@@ -37,7 +37,7 @@ fn first_refusal(x: LineFrame, room: usize, refusal: Refusal) -> Refusal
     refusal
 }
 
-// Writes the frame that the numbers give. A match, since a proof learns too little of the closure of `map_err` here.
+// Writes the frame that the numbers give. Not `map_err` and `?`: behind them a proof no longer sees that the frame is the one that the numbers give.
 fn write(x: LineFrame, run: &mut [u32]) -> Result<usize, Refusal>
     ensures told { answer result ≡ line_writes x (given x) (length run.old) }
     ensures after { run.new ≡ line_written (given x) run.old }

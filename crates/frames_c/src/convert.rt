@@ -4,24 +4,24 @@ ghost use Rattle.frames.specs.Answers.{answer};
 ghost use Rattle.frames_c.specs.Flat.{body_given, given, flat};
 
 use crate::line_frame::LineFrame;
+use codec::Kind;
 use frames::frame::{Body, Frame};
 use frames::refusal::Refusal;
 use payloads::line::ProfileLine;
 
-// The body that the numbers give; its kind is a number, since C gives it.
+// The body that the numbers give.
 fn body_given(x: LineFrame) -> Result<Body<ProfileLine>, Refusal>
     ensures { answer result ≡ body_given x }
 {
     let (s, r, n, l) = (x.s, x.r, x.n, x.l);
-    match x.kind {
-        1 => Ok(Body::ReqSlots { s, n, l }),
-        2 => Ok(Body::Slots { s, r, n }),
-        3 => {
+    match Kind::try_from(x.kind)? {
+        Kind::ReqSlots => Ok(Body::ReqSlots { s, n, l }),
+        Kind::Slots => Ok(Body::Slots { s, r, n }),
+        Kind::Token => {
             let payload = ProfileLine::new(x.place, x.step)?;
             Ok(Body::Token { s, r, payload })
         }
-        4 => Ok(Body::Ack { s, r }),
-        _ => Err(Refusal::HeadKind),
+        Kind::Ack => Ok(Body::Ack { s, r }),
     }
 }
 
@@ -45,34 +45,22 @@ impl From<Frame<ProfileLine>> for LineFrame {
 
     fn from(frame: Frame<ProfileLine>) -> LineFrame {
         let x = LineFrame {
+            kind: Kind::from(frame.body).into(),
             sender: frame.sender,
             addressee: frame.addressee,
             ..LineFrame::default()
         };
         match frame.body {
-            Body::ReqSlots { s, n, l } => LineFrame {
-                kind: 1,
-                s,
-                n,
-                l,
-                ..x
-            },
-            Body::Slots { s, r, n } => LineFrame {
-                kind: 2,
-                s,
-                r,
-                n,
-                ..x
-            },
+            Body::ReqSlots { s, n, l } => LineFrame { s, n, l, ..x },
+            Body::Slots { s, r, n } => LineFrame { s, r, n, ..x },
             Body::Token { s, r, payload } => LineFrame {
-                kind: 3,
                 s,
                 r,
                 place: payload.place(),
                 step: payload.step(),
                 ..x
             },
-            Body::Ack { s, r } => LineFrame { kind: 4, s, r, ..x },
+            Body::Ack { s, r } => LineFrame { s, r, ..x },
         }
     }
 }

@@ -1,6 +1,7 @@
 // Why a text is not taken.
 ghost use Rattle.std.specs.Prelude.{◌≡◌, Some};
 ghost use Rattle.frametext.specs.Labels.{label_text};
+ghost use Rattle.frametext.specs.declared.fault.Fault.TheVariants.{NoPayload};
 
 use frames::refusal::Refusal;
 use std::fmt;
@@ -63,6 +64,14 @@ pub enum Fault {
     NotThere(Expected),
     // There is no such payload.
     NoPayload(Refusal),
+}
+
+impl From<Refusal> for Fault {
+    ghost from_gives = { λ refusal fault. fault ≡ NoPayload refusal };
+
+    fn from(refusal: Refusal) -> Fault {
+        Fault::NoPayload(refusal)
+    }
 }
 
 impl fmt::Display for Expected {

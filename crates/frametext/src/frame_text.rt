@@ -12,7 +12,8 @@ use crate::scan::{cut, ends, field, next_word, number};
 use frames::frame::{Body, Frame};
 use std::alloc::{AllocError, Global};
 
-// The text of a frame in memory: what the frame prints. It reads back as that frame, whatever numbers its types hold.
+// The text of a frame in memory: what the frame prints. It stays beside that for its promise that the text reads back as the frame, whatever numbers the
+// frame's types hold.
 #[tactic(auto, using(crate::proofs::Framed::frame_known))]
 pub fn show_frame<P: PayloadText>(frame: Frame<P>, heap: Global) -> Result<String, AllocError>
     ensures text { IfOk result (λ s. string_bytes s ≡ frame_text P.spelling frame) }
@@ -39,7 +40,7 @@ fn two_fields(text: &str, second: Label) -> Result<(u64, u64), Fault>
     Ok((s, x))
 }
 
-// The text behind its first two words.
+// The text behind its first two words. It looks for them once more: given back by `two_fields` it would be a third value of each definition.
 fn behind_two(text: &str) -> &str
     ensures { result.now ≡ behind_two text.now }
 {

@@ -7,4 +7,4 @@ pub mod payload_text;
 mod scan;
 pub mod word_text;
 
-pub use scan::next_word;
+pub use scan::{ends, next_word};

@@ -1,8 +1,7 @@
 // Payloads as text.
 ghost use Rattle.std.specs.Prelude.{◌≡◌, ℕ, List, Some};
 ghost use Rattle.payloads.specs.Texts.{line_text, event_text};
-ghost use Rattle.frames.specs.Answers.{answer};
-ghost use Rattle.frametext.specs.Told.{Told, told, tells, told_of};
+ghost use Rattle.frametext.specs.Told.{Told, told, tells};
 ghost use Rattle.frametext.specs.Payloads.{line_in, sort_in, event_in};
 ghost use Rattle.frametext.specs.Spelled.{line_respelled, event_respelled};
 ghost use Rattle.std.proofs.Common.{rules};
@@ -10,7 +9,6 @@ ghost use Rattle.std.proofs.Common.{rules};
 use crate::fault::{Expected, Fault, Label};
 use crate::scan::{field, next_word, number, strip};
 use frames::payload::Payload;
-use frames::refusal::Refusal;
 use payloads::event::LiftEvent;
 use payloads::line::ProfileLine;
 use payloads::sort::Sort;
@@ -35,13 +33,6 @@ pub trait PayloadText: Payload + Display {
     ghost respelled: { (x : Self) → spelled (spelling x) ≡ tells x };
 }
 
-// A payload that was made, or the fault that it cannot be.
-fn taken<T>(made: Result<T, Refusal>) -> Result<T, Fault>
-    ensures { told result ≡ told_of (answer made) }
-{
-    made.map_err(Fault::NoPayload)
-}
-
 // As `place=5 step=-2`.
 impl PayloadText for ProfileLine {
     ghost spelling = { line_text };
@@ -56,7 +47,7 @@ impl PayloadText for ProfileLine {
         let (place, step) = next_word(text);
         let place = field(place, Label::Place)?;
         let step = field(step, Label::Step)?;
-        taken(ProfileLine::new(place, step))
+        Ok(ProfileLine::new(place, step)?)
     }
 }
 
@@ -90,6 +81,6 @@ impl PayloadText for LiftEvent {
         let (lift, sort) = next_word(text);
         let lift = field(lift, Label::Lift)?;
         let sort = parse_sort(sort)?;
-        taken(LiftEvent::new(lift, sort))
+        Ok(LiftEvent::new(lift, sort)?)
     }
 }

@@ -84,7 +84,7 @@ where
 }
 
 // Nothing more may follow.
-pub(crate) fn ends(rest: &str) -> Result<(), Fault>
+pub fn ends(rest: &str) -> Result<(), Fault>
     ensures { told result ≡ end_in rest.now }
 {
     if rest.is_empty() {

@@ -39,7 +39,7 @@ fn push_word(text: &mut String, w: u32) -> Result<(), AllocError>
     push_hex(text, w)
 }
 
-// The text of words, one space apart. A slice of words is no type of ours, and cannot print itself.
+// The text of words, one space apart: public, and in memory. Words are a slice, which is no type of this crate and cannot print itself.
 pub fn show_words(words: &[u32], heap: Global) -> Result<String, AllocError>
     ensures { IfOk result (λ s. string_bytes s ≡ words_text words.now) }
 {

@@ -14,6 +14,7 @@ fn main(rt: HostRuntime) -> io::Result<()> {
     let mut session = Session::new(heap);
     let lines = BufReader::new(heap, rt.stdin())?.lines(heap);
     for (number, line) in (1u64..).zip(lines) {
+        // The messages of `console` too, which reads on in another loop: a library for them would owe a contract on what is printed.
         match session.answer(line) {
             Ok(Some(told)) => rt.println(told)?,
             Ok(None) => {}

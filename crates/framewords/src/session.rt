@@ -1,11 +1,10 @@
 // Commands on words and frames, one to a line, each answered by a line of text.
 use crate::unanswered::{Unanswered, Wanted};
 use codec::{read_frame, write_frame};
-use frametext::fault::Expected;
 use frametext::frame_text::parse_frame;
-use frametext::next_word;
 use frametext::payload_text::PayloadText;
 use frametext::word_text::{parse_word, show_words};
+use frametext::{ends, next_word};
 use payloads::event::LiftEvent;
 use payloads::line::ProfileLine;
 use std::alloc::Global;
@@ -49,9 +48,7 @@ impl Session {
     // The answer to a new room.
     fn set_room(&mut self, number: &str, rest: &str) -> Result<String, Unanswered> {
         let room = number.parse::<usize>().map_err(|_| Wanted::Room)?;
-        if !rest.is_empty() {
-            return Err(Wanted::Part(Expected::End).into());
-        }
+        ends(rest)?;
         let room = room.min(LONGEST);
         self.room = room;
         Ok(format!(in self.heap; "room for {room} words")?)

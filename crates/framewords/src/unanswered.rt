@@ -29,8 +29,8 @@ impl fmt::Display for Wanted {
     }
 }
 
-// Why a command has no answer. `console` has one like it over its own `Wanted`: in a generic enum `From<W>` and `From<Refusal>` would overlap, and `?` could
-// no longer make both.
+// Why a command has no answer. `console` has one like it over its own `Wanted`: in a library a generic enum of both would owe contracts and edits for each
+// `From`, and its `From<W>` would overlap with `From<Refusal>`.
 #[derive(Drop)]
 pub enum Unanswered {
     // This was wanted, and something else stood there.

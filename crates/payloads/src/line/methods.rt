@@ -20,7 +20,8 @@ fn line_fits(place: u32, step: i32) -> bool
     place <= 1023 && -32768 <= step && step <= 32767
 }
 
-// The line with these parts, if they are in range. Each kind of payload has such a function: the parts and their ranges are its own.
+// The line with these parts, if they are in range. Each kind of payload has such a function: the parts and their ranges are its own. Not `then`: the proof that
+// its closure makes a line in range does not close.
 fn line_of(place: u32, step: i32) -> Option<ProfileLine>
     ensures { result ≡ line_of place step }
 {
