@@ -24,7 +24,7 @@ places() {
     6) find_in_src '= \[0; |^ *(pub )?count: usize,$|LONGEST\)|table: .*mut \[F\],$' ;;
     # a match on what to do next
     7) find_in_src 'match (layer|first|kind|action|command|\(command, (kind|first)\)|next|pile\.bottom|(choice|draw)\(.*) ' ;;
-    # answers to goals, invariants, and files of lemmas
+    # answers to goals, and invariants
     8) find crates/*/proofs -name 'Answers.antt' -o -name 'Invariants.antt' | sort ;;
     esac
 }

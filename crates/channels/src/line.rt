@@ -5,8 +5,9 @@ ghost use Rattle.std.specs.List.{slice_get};
 use crate::channel::Channel;
 use crate::look::Look;
 
-// A line over a borrowed table of any length; it loses what is put when the table is full. `count` frames wait: the oldest at `head`, the others behind it,
-// and on from the table's start. The caller lends the table, since this library takes no memory; so its numbers stand beside it, and it is no `VecDeque`.
+// A line over a borrowed table of any length; it loses what is put when the table is full. `count` frames wait: the oldest at `head`, or at
+// the start where that is the table's end, the others behind it, and on from the start. The caller lends the table, since this library takes no memory; so its
+// numbers stand beside it, and it is no `VecDeque`.
 #[derive(Drop)]
 pub struct Line<'a, F> {
     table: &'a mut [F],

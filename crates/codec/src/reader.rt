@@ -71,7 +71,8 @@ fn read_ack<P: Payload>(ws: &[u32]) -> Result<Body<P>, Refusal>
     Ok(Body::Ack { s, r })
 }
 
-// The payload in the first words: a wrong kind among them is refused before the payload's own reading is asked.
+// The payload in the first words: a wrong kind among them is refused before the payload's own reading is asked. It asks that they are there, since no slice
+// pattern is as long as `P::SIZE`.
 fn read_payload<P: Payload>(ws: &[u32]) -> Result<P, Refusal>
     requires { P.SIZE ≤ length ws.now }
     ensures { answer result ≡ payload_of P.SIZE P.reads ws.now }

@@ -143,7 +143,7 @@ fn next_bottom(text: &str) -> Result<(Bottom, &str), Wanted> {
     }
 }
 
-// The layer that a word names. It stands here, since only this program reads names of layers.
+// The layer that a word names. Not `FromStr`: that would stand in the library, public, with an error type, a contract and an edit for these three arms.
 fn parse_layer(word: &str) -> Result<Layer, Wanted> {
     match word {
         "repeating" => Ok(Layer::Repeating),

@@ -39,7 +39,8 @@ impl Session {
         self.rt.println(told)
     }
 
-    // Answers that the last line says nothing to do; `framewords` has the same three messages in its loop.
+    // Answers that the last line says nothing to do. `framewords` has the same messages: a function for both would be generic over both error enums and take
+    // the number, no shorter than three arms.
     pub fn tell_unread(&self, unread: Unread) -> io::Result<()> {
         let number = self.number;
         match unread {

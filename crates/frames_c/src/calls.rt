@@ -10,7 +10,7 @@ use frames::frame::{Frame, LAST_CLOCK};
 use frames::refusal::Refusal;
 use payloads::line::ProfileLine;
 
-// What C takes of an answer: a count as it is, a refusal as minus its number.
+// What C takes of an answer: a count as it is, a refusal as minus its number. No `From`: both types are others'.
 fn signed(told: Result<usize, Refusal>) -> i64
     requires { IfOk told (λ n. n < 2 ^ 63) }
     ensures { result ≡ signed (answer told) }

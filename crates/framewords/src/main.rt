@@ -14,7 +14,7 @@ fn main(rt: HostRuntime) -> io::Result<()> {
     let mut session = Session::new(heap);
     let lines = BufReader::new(heap, rt.stdin())?.lines(heap);
     for (number, line) in (1u64..).zip(lines) {
-        // The messages of `console` too, which reads on in another loop: a library for them would owe a contract on what is printed.
+        // `console` has the same messages: a function for both would be generic over both error enums and take the number, no shorter than three arms.
         match session.answer(line) {
             Ok(Some(told)) => rt.println(told)?,
             Ok(None) => {}
