@@ -1,14 +1,13 @@
 -- Words that read as a frame are the words of that frame.
-use Rattle.std.proofs.Common.{◌≡◌, ℕ, suc, ◌+◌, ◌^◌, ◌≤◌, Bool, true, false, cond, eqb, leb, List, [], ◌∷◌, map, length, take, IfOk, Some, None, Ok, Err, Option, Result, sym, refl, ap, ◌∙◌, subst, arith}
+use Rattle.std.proofs.Common.{◌≡◌, ℕ, suc, ◌+◌, ◌^◌, ◌≤◌, Bool, true, false, cond, eqb, leb, List, [], ◌∷◌, map, length, take, Some, None, Option, sym, refl, ap, ◌∙◌, subst, arith}
 use Rattle.std.proofs.lemmas.Nat.{div-add-mod'}
-use Rattle.std.proofs.lemmas.List.{length-take, length-take-le}
+use Rattle.std.proofs.lemmas.List.{length-take-le}
 use Rattle.std.proofs.lemmas.Bool.Decides.{nat_tests}
 use Rattle.std.proofs.lemmas.Bool.{eqb-true, leb-true, le-leb, and_parts, and_from}
 use Rattle.frames.specs.declared.frame.Frame.{Frame}
 use Rattle.frames.specs.declared.frame.Body.{Body}
 use Rattle.frames.specs.declared.frame.Body.TheVariants.{ReqSlots, Slots, Token, Ack}
-use Rattle.frames.specs.declared.refusal.Refusal.{Refusal}
-use Rattle.frames.specs.Answers.{Answer, answer, gives, refuses, and_then, or_refuse}
+use Rattle.frames.specs.Answers.{Answer, gives, refuses, and_then, or_refuse}
 use Rattle.codec.specs.declared.word.Kind.{Kind}
 use Rattle.codec.specs.declared.word.Kind.TheVariants as kinds
 use Rattle.codec.specs.Words.{word, word_kind, word_value, head_word, head_sender, head_addressee, head_count, kind_code, kind_at}
@@ -16,7 +15,7 @@ use Rattle.codec.specs.Layout.{last_clock, kind_of, field_words, frame_words, bo
 use Rattle.codec.specs.Writing.{writes}
 use Rattle.codec.specs.Reading.{headed, count_after, field_of, all_of, payload_of, body_of, body_in, frame_of, frame_at}
 use Rattle.codec.specs.Trips.{WritesBack}
-use Rattle.codec.proofs.Written.{gives_same, wrote, writes-fitting}
+use Rattle.codec.proofs.Written.{gives_same, writes-fitting}
 
 gave : {A B : Type 0} (a : Answer A) (f : A → Answer B) (y : B) → and_then a f ≡ gives y → (x : A) × (a ≡ gives x) × (f x ≡ gives y)
 gave (gives x) f y e = (x, refl, e)
@@ -186,12 +185,3 @@ module _ {P : Type 0} (size : ℕ) (words : P → List ℕ) (reads : List ℕ �
   written_back (h ∷ ws) f n e =
       let g = gave (or_refuse (kind_at (word_kind h)) 13) (λ k. frame_of size reads h k ws) (f, n) e in
       frame_only h g.0 ws (f, n) (kind_at-only (word_kind h) g.0 (there (kind_at (word_kind h)) 13 g.0 g.1)) g.2
-
-  -- and lies within the run
-  pub used_within : (run : List ℕ) (r : Result (Frame P × ℕ) Refusal) → answer r ≡ frame_at size reads run → IfOk r (λ got. got.1 ≤ length run)
-  used_within run (Err e) told = tt
-  used_within run (Ok got) told =
-      let back = written_back run got.0 got.1 (sym told) in
-      let count = (wrote words got.0 got.1 got.1 back.0).count in
-      let same = sym (length-take got.1 run) ∙ ap length back.1 in
-      omega (arith, same)

@@ -1,16 +1,16 @@
--- The frame fits and so do its words: what stands in the run then is the definition's, and reads back.
+-- The frame fits and so do its words: what stands in the run then reads back.
 use Rattle.std.proofs.Common.{◌≡◌, ◌+◌, ◌-◌, ◌∷◌, ◌++◌, length, drop, sym, ap, ◌∙◌, arith}
 use Rattle.frames.specs.Answers.{gives}
 use Rattle.codec.specs.Words.{head_word, kind_code}
 use Rattle.codec.specs.Layout.{kind_of, field_words, frame_words}
 use Rattle.codec.specs.Reading.{count_after, frame_at}
 use Rattle.codec.proofs.Counts.{fields_counted}
-use Rattle.codec.proofs.Written.{gives_same, writes-fitting}
+use Rattle.codec.proofs.Written.{gives_same}
 use Rattle.codec.proofs.ReadBack.{frame_back}
 use Rattle.codec.proofs.writer.write_frame.Goals as goal
 
-pub returns : goal.returns
-returns g c =
+pub returns-clause-reads_back : goal.returns-clause-reads_back
+returns-clause-reads_back g c =
     let p = g.P.Payload in
     let laws = g.met.P.Payload in
     let f = c.args.frame in
@@ -28,10 +28,4 @@ returns g c =
     ∙ ap (λ h. h ∷ (fields ++ drop (count_after p.SIZE (kind_of f.body) + 1) run)) head
     ∙ ap (λ k. frame_words p.words f ++ drop k run) whole in
     let back = frame_back p.SIZE p.words p.reads laws.few laws.counted laws.narrow laws.back f (drop n run) fits in
-    record {
-      told = sym (writes-fitting p.words f (length run) n fits count (omega arith));
-      after = after;
-      within = omega arith;
-      reads_back = λ m e.
-          ap (frame_at p.SIZE p.reads) after ∙ back ∙ ap (λ k. gives (f, k)) (sym count ∙ gives_same n m e);
-    }
+    λ m e. ap (frame_at p.SIZE p.reads) after ∙ back ∙ ap (λ k. gives (f, k)) (sym count ∙ gives_same n m e)
