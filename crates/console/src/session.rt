@@ -51,10 +51,10 @@ impl Session {
     }
 
     // Reads on up to a change, which it gives; none at the end of the input. Each action on the way is passed to `act`.
-    pub fn next_change<P: PayloadText, F: FnMut(&Session, Action<Frame<P>>) -> io::Result<()>>(
-        &mut self,
-        mut act: F,
-    ) -> io::Result<Option<Change>>
+    pub(crate) fn next_change<
+        P: PayloadText,
+        F: FnMut(&Session, Action<Frame<P>>) -> io::Result<()>,
+    >(&mut self, mut act: F) -> io::Result<Option<Change>>
         requires { F.IsAlwaysCallable act }
         ensures { ReadsOn self.old result self.new }
     {
