@@ -1,6 +1,6 @@
 // Loss, repetition and any order, from a number.
-ghost use Rattle.std.specs.Prelude.{◌≡◌, ◌<◌, ◌≤◌, List, [], length, IfSome};
-ghost use Rattle.std.specs.List.{ContainsAt};
+ghost use Rattle.std.specs.Prelude.{◌≡◌, ◌<◌, ◌≤◌, List, [], length, IfSome, Some};
+ghost use Rattle.std.specs.List.{ContainsAt, slice_get};
 ghost use Rattle.channels.specs.Numbers.{number_after};
 
 use crate::channel::Channel;
@@ -78,9 +78,10 @@ impl<'a, F: Copy> Wild<'a, F> {
     }
 
     // The frame that a number picks, with its place, if one waits and the number does not pass over it.
-    #[tactic(auto, using(crate::proofs::Fronts::has_read))]
+    #[tactic(auto, using(crate::proofs::Fronts::has_read, crate::proofs::Fronts::nth_read))]
     fn pick(&self, choice: usize) -> Option<(usize, F)>
         ensures among { IfSome result (λ p. p.0 < length (wild_waits self.now)) }
+        ensures is { IfSome result (λ p. Some p.1 ≡ slice_get (wild_waits self.now) p.0) }
         ensures waits { IfSome result (λ p. ContainsAt (wild_waits self.now) p.1) }
     {
         let waiting = self.waiting();

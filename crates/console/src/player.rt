@@ -28,18 +28,20 @@ pub enum Outcome<F> {
     Shown { waiting: Vec<F>, totals: Totals },
 }
 
-// The frames that `others` lacks, counted by copies.
+// The frames that `others` lacks, counted by copies. The others are searched from their end, where the first of them stand then: of two lists in the same
+// order each frame is found at once, and removed without moving any.
 fn lacked<F: Copy + PartialEq>(
     frames: &[F],
     others: &[F],
     heap: Global,
 ) -> Result<Vec<F>, AllocError> {
     let mut left = Vec::from_slice(heap, others)?;
+    left.as_mut_slice().reverse();
     let mut out = Vec::new(heap);
     for frame in frames {
-        match left.iter().position(|other| *other == *frame) {
+        match left.iter().rposition(|other| *other == *frame) {
             Some(i) => {
-                left.swap_remove(i);
+                left.remove(i);
             }
             None => out.push(*frame)?,
         }

@@ -77,7 +77,7 @@ pub enum Wanted {
 
 // Why a line says nothing to do. `framewords` has one like it over its own `Wanted`: in a library a generic enum of both would owe contracts and edits for each
 // `From`, and its `From<W>` would overlap with the `From<Refusal>` there.
-#[derive(Drop)]
+#[derive(Clone, Copy)]
 pub enum Unread {
     // This was wanted, and something else stood there.
     Unclear(Wanted),
@@ -204,15 +204,25 @@ fn parse_command<P: PayloadText>(text: &str) -> Result<Command<Frame<P>>, Unread
     }
 }
 
-// The command of a line of input; none in a blank line or a comment. `framewords` begins so too: in a library it would owe a contract, and no clause of the
-// standard library says which words splitting gives.
+// The same text with one space between its words, and none around them: word by word, since a list of them would take many times the memory of a line of
+// short words. `framewords` has the same: in a library it would owe a contract, and no clause of the standard library says which words splitting gives.
+fn squeezed(text: &str, heap: Global) -> Result<String, AllocError> {
+    let mut out = String::new(heap);
+    for word in text.split_whitespace() {
+        if !out.is_empty() {
+            out.push_str(" ")?;
+        }
+        out.push_str(word)?;
+    }
+    Ok(out)
+}
+
+// The command of a line of input; none in a blank line or a comment.
 pub fn read_line<P: PayloadText>(
     line: io::Result<String>,
     heap: Global,
 ) -> Result<Option<Command<Frame<P>>>, Unread> {
-    let line = line?;
-    let words: Vec<&str> = line.as_str().split_whitespace().collect(heap)?;
-    let text = words.join(heap, " ")?;
+    let text = squeezed(line?.as_str(), heap)?;
     let text = text.as_str();
     if text.is_empty() || text.starts_with('#') {
         return Ok(None);

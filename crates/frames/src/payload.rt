@@ -18,6 +18,13 @@ pub trait Payload: Copy {
     // the value with these words, if there is one
     ghost reads: { List ℕ → Option Self };
 
+    // How many words each value takes, as a call.
+    fn count() -> usize
+        ensures { result ≡ SIZE }
+    {
+        Self::SIZE
+    }
+
     // The word at place `i`, and 0 past the last. One at a time, since an array cannot be as long as a constant of the type.
     fn word(self, i: usize) -> u32
         ensures { result ≡ slice_index (words self) i };

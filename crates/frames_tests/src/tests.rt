@@ -1,8 +1,11 @@
-// What the codec does on examples.
+// What the codec and the texts do on examples.
 use crate::stamp::Stamp;
 use codec::{read_frame, write_frame};
 use frames::frame::{Body, Frame};
+use frames::payload::Payload;
 use frames::refusal::Refusal;
+use frametext::frame_text::show_frame;
+use frametext::payload_text::PayloadText;
 use payloads::event::LiftEvent;
 use payloads::line::ProfileLine;
 use payloads::sort::Sort;
@@ -99,6 +102,31 @@ fn stamp_in_a_longer_run(rt: HostRuntime) -> Result<(), Fail> {
     );
     assert_eq!(rt; &run[7..9], [0xeeee_eeee, 0xeeee_eeee].as_slice());
     assert_eq!(rt; read_frame::<Stamp>(&run)?, (frame, 7));
+    Ok(())
+}
+
+#[test]
+fn texts_in_memory(rt: HostRuntime) -> Result<(), Fail> {
+    let heap = rt.alloc();
+    let line = ProfileLine::new(5, -2)?;
+    let payload = LiftEvent::new(12, Sort::Stopped { floor: -3 })?;
+    let frame = sent(
+        0,
+        1,
+        Body::Token {
+            s: 7,
+            r: 2,
+            payload,
+        },
+    );
+    let line_text = line.show(heap)?;
+    let event_text = payload.show(heap)?;
+    let frame_text = show_frame(frame, heap)?;
+    assert_eq!(rt; line_text.as_str(), "place=5 step=-2");
+    assert_eq!(rt; event_text.as_str(), "lift=12 floor=-3");
+    assert_eq!(rt; frame_text.as_str(), "0>1 TOKEN s=7 r=2 lift=12 floor=-3");
+    assert_eq!(rt; ProfileLine::count(), 1);
+    assert_eq!(rt; LiftEvent::count(), 2);
     Ok(())
 }
 

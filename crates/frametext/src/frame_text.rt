@@ -1,10 +1,11 @@
 // Frames as text, as `0>1 REQSLOTS s=0 n=3 l=0`.
-ghost use Rattle.std.specs.Prelude.{◌≡◌, IfOk, string_bytes};
+ghost use Rattle.std.specs.Prelude.{◌≡◌, IfOk, Some, string_bytes};
 ghost use Rattle.frametext.specs.Told.{told, tells};
 ghost use Rattle.frametext.specs.Labels.{label_text};
-ghost use Rattle.frames.specs.Texts.{frame_text};
+ghost use Rattle.frametext.specs.Numbers.{field_in};
+ghost use Rattle.frames.specs.Texts.{frame_shown, frame_text};
 ghost use Rattle.frametext.specs.Frames.{Held};
-ghost use Rattle.frametext.specs.Frames.{first_field, two_in, behind_two, three_in, route_in, req_slots_in, slots_in, token_in, ack_in, kind_in, frame_in};
+ghost use Rattle.frametext.specs.Frames.{two_in, behind_two, three_in, route_in, req_slots_in, slots_in, token_in, ack_in, kind_in, frame_in};
 
 use crate::fault::{Expected, Fault, Label};
 use crate::payload_text::PayloadText;
@@ -12,21 +13,21 @@ use crate::scan::{cut, ends, field, next_word, number};
 use frames::frame::{Body, Frame};
 use std::alloc::{AllocError, Global};
 
-// The text of a frame in memory: what the frame prints. It stays beside that for its promise that the text reads back as the frame, whatever numbers the
-// frame's types hold.
+// The text of a frame in memory: what the frame prints, which reads back as the frame, whatever numbers its types hold.
 #[tactic(auto, using(crate::proofs::Framed::frame_known))]
 pub fn show_frame<P: PayloadText>(frame: Frame<P>, heap: Global) -> Result<String, AllocError>
     ensures text { IfOk result (λ s. string_bytes s ≡ frame_text P.spelling frame) }
+    ensures printed { frame_shown P.output frame ≡ Some (frame_text P.spelling frame) }
     ensures reads_back { Held frame → frame_in P.spelled (frame_text P.spelling frame) ≡ tells frame }
 {
     format!(in heap; "{frame}")
 }
 
-// The number of a field that comes first in a text.
-fn first_field(text: &str, label: Label) -> Result<u64, Fault>
-    ensures { told result ≡ first_field (label_text label) text.now }
+// The number behind a label, of 64 bits as the fields of a frame are. For `u64` the contract of `field` comes to `field_in 64`: said here once, it need not be
+// found in each proof below.
+fn frame_field(word: &str, label: Label) -> Result<u64, Fault>
+    ensures { told result ≡ field_in 64 (label_text label) word.now }
 {
-    let (word, _) = next_word(text);
     field(word, label)
 }
 
@@ -34,9 +35,10 @@ fn first_field(text: &str, label: Label) -> Result<u64, Fault>
 fn two_fields(text: &str, second: Label) -> Result<(u64, u64), Fault>
     ensures { told result ≡ two_in (label_text second) text.now }
 {
-    let (_, rest) = next_word(text);
-    let s = first_field(text, Label::S)?;
-    let x = first_field(rest, second)?;
+    let (first, rest) = next_word(text);
+    let (word, _) = next_word(rest);
+    let s = frame_field(first, Label::S)?;
+    let x = frame_field(word, second)?;
     Ok((s, x))
 }
 
@@ -54,9 +56,8 @@ fn three_fields(text: &str, second: Label, third: Label) -> Result<(u64, u64, u6
     ensures { told result ≡ three_in (label_text second) (label_text third) text.now }
 {
     let (s, x) = two_fields(text, second)?;
-    let rest = behind_two(text);
-    let y = first_field(rest, third)?;
-    let (_, rest) = next_word(rest);
+    let (word, rest) = next_word(behind_two(text));
+    let y = frame_field(word, third)?;
     ends(rest)?;
     Ok((s, x, y))
 }

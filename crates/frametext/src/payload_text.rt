@@ -1,5 +1,5 @@
 // Payloads as text.
-ghost use Rattle.std.specs.Prelude.{◌≡◌, ℕ, List, Some};
+ghost use Rattle.std.specs.Prelude.{◌≡◌, ℕ, List, Some, IfOk, string_bytes};
 ghost use Rattle.payloads.specs.Texts.{line_text, event_text};
 ghost use Rattle.frametext.specs.Told.{Told, told, tells};
 ghost use Rattle.frametext.specs.Payloads.{line_in, sort_in, event_in};
@@ -12,6 +12,7 @@ use frames::payload::Payload;
 use payloads::event::LiftEvent;
 use payloads::line::ProfileLine;
 use payloads::sort::Sort;
+use std::alloc::{AllocError, Global};
 use std::fmt::Display;
 
 // A kind of payload that has a text form: the one that it prints.
@@ -21,6 +22,13 @@ pub trait PayloadText: Payload + Display {
 
     // what a text tells of a value
     ghost spelled: { List ℕ → Told Self };
+
+    // The text of a value in memory.
+    fn show(self, heap: Global) -> Result<String, AllocError>
+        ensures { IfOk result (λ s. string_bytes s ≡ spelling self) }
+    {
+        format!(in heap; "{self}")
+    }
 
     // The value that a text shows.
     fn parse(text: &str) -> Result<Self, Fault>

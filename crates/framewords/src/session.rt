@@ -1,17 +1,30 @@
 // Commands on words and frames, one to a line, each answered by a line of text.
 use crate::unanswered::{Unanswered, Wanted};
 use codec::{read_frame, write_frame};
-use frametext::frame_text::parse_frame;
+use frametext::frame_text::{parse_frame, show_frame};
 use frametext::payload_text::PayloadText;
 use frametext::word_text::{parse_word, show_words};
 use frametext::{ends, next_word};
 use payloads::event::LiftEvent;
 use payloads::line::ProfileLine;
-use std::alloc::Global;
+use std::alloc::{AllocError, Global};
 use std::io;
 
 // The most words that a frame takes.
 const LONGEST: usize = 7;
+
+// The same text with one space between its words, and none around them: word by word, since a list of them would take many times the memory of a line of
+// short words. `console` has the same: in a library it would owe a contract, and no clause of the standard library says which words splitting gives.
+fn squeezed(text: &str, heap: Global) -> Result<String, AllocError> {
+    let mut out = String::new(heap);
+    for word in text.split_whitespace() {
+        if !out.is_empty() {
+            out.push_str(" ")?;
+        }
+        out.push_str(word)?;
+    }
+    Ok(out)
+}
 
 // The room that frames are written into, in words.
 #[derive(Drop)]
@@ -29,19 +42,22 @@ impl Session {
         }
     }
 
-    // The answer to words that should be a frame.
+    // The answer to words that should be a frame. Its text is made by `show_frame`, whose contract says that it is the documented one and reads back.
     fn read<P: PayloadText>(&self, text: &str) -> Result<String, Unanswered> {
         let words = text.split_whitespace().map(parse_word);
         let words: Vec<u32> = words.collect::<Option<_>>(self.heap)?.ok_or(Wanted::Words)?;
         let (frame, used) = read_frame::<P>(words.as_slice())?;
+        let frame = show_frame(frame, self.heap)?;
         Ok(format!(in self.heap; "{frame}, {used} words")?)
     }
 
     // The answer to a text that should be a frame: its words.
     fn write<P: PayloadText>(&self, text: &str) -> Result<String, Unanswered> {
         let frame = parse_frame::<P>(text)?;
-        let mut run = vec![in self.heap; 0; self.room]?;
-        let count = write_frame(frame, run.as_mut_slice())?;
+        // An array cut to the room, and no `Vec` as long as that: the words are few, and a command takes no memory for them.
+        let mut run = [0; LONGEST];
+        let run = &mut run[..self.room.min(LONGEST)];
+        let count = write_frame(frame, run)?;
         Ok(show_words(&run[..count], self.heap)?)
     }
 
@@ -69,12 +85,9 @@ impl Session {
         }
     }
 
-    // The answer to one line of input; none to a blank line or a comment. `console` begins so too: in a library it would owe a contract, and no clause of the
-    // standard library says which words splitting gives.
+    // The answer to one line of input; none to a blank line or a comment.
     pub fn answer(&mut self, line: io::Result<String>) -> Result<Option<String>, Unanswered> {
-        let line = line?;
-        let words: Vec<&str> = line.as_str().split_whitespace().collect(self.heap)?;
-        let text = words.join(self.heap, " ")?;
+        let text = squeezed(line?.as_str(), self.heap)?;
         let text = text.as_str();
         if text.is_empty() || text.starts_with('#') {
             return Ok(None);
