@@ -1,5 +1,5 @@
 // The newest frame kept back.
-ghost use Rattle.std.specs.Prelude.{◌≡◌, length, None, ◌==◌};
+ghost use Rattle.std.specs.Prelude.{◌≡◌, length, nat_le, None};
 ghost use Rattle.channels.specs.Holds.{hold_waits, HoldPuts, HoldTakes};
 ghost use Rattle.channels.specs.HoldLaws.{hold_lawful};
 
@@ -51,19 +51,20 @@ impl<F: Copy, C: Channel<F>> Channel<F> for Holding<C, F> {
     }
 }
 
-// Whether `i` is the count of frames that wait in a channel.
-fn ends_at<F: Copy, C: Look<F>>(channel: &C, i: usize) -> bool
-    ensures { result ≡ (i == length (C.Channel.waits channel.now)) }
+// Whether at least `i` frames wait in a channel.
+fn reaches<F: Copy, C: Look<F>>(channel: &C, i: usize) -> bool
+    ensures { result ≡ nat_le i (length (C.Channel.waits channel.now)) }
 {
-    channel.look(i).is_none() && (i == 0 || channel.look(i - 1).is_some())
+    i == 0 || channel.look(i - 1).is_some()
 }
 
 impl<F: Copy, C: Look<F>> Look<F> for Holding<C, F> {
     fn look(&self, i: usize) -> Option<F> {
-        if ends_at(&self.below, i) {
-            self.held
-        } else {
-            self.below.look(i)
+        // A frame that waits below is found by one look, through each layer of a pile.
+        match self.below.look(i) {
+            Some(frame) => Some(frame),
+            None if reaches(&self.below, i) => self.held,
+            None => None,
         }
     }
 }

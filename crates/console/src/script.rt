@@ -186,7 +186,7 @@ impl FromStr for PayloadKind {
 }
 
 // The command that a text says: its words one space apart, and nothing around them.
-fn parse_command<P: PayloadText>(text: &str) -> Result<Command<Frame<P>>, Unread> {
+pub fn parse_command<P: PayloadText>(text: &str) -> Result<Command<Frame<P>>, Unread> {
     let (word, rest) = next_word(text);
     match word {
         "channel" => Ok(Command::Change(Change::Channel(rest.parse()?))),
@@ -217,15 +217,11 @@ fn squeezed(text: &str, heap: Global) -> Result<String, AllocError> {
     Ok(out)
 }
 
-// The command of a line of input; none in a blank line or a comment.
-pub fn read_line<P: PayloadText>(
-    line: io::Result<String>,
-    heap: Global,
-) -> Result<Option<Command<Frame<P>>>, Unread> {
+// The text of a line of input, its words one space apart; none in a blank line or a comment.
+pub fn read_line(line: io::Result<String>, heap: Global) -> Result<Option<String>, Unread> {
     let text = squeezed(line?.as_str(), heap)?;
-    let text = text.as_str();
-    if text.is_empty() || text.starts_with('#') {
+    if text.is_empty() || text.as_str().starts_with('#') {
         return Ok(None);
     }
-    parse_command(text).map(Some)
+    Ok(Some(text))
 }

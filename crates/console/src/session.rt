@@ -1,7 +1,7 @@
 // The lines that are read, and the answers to them.
 ghost use Rattle.console.specs.Input.{ReadsOn};
 
-use crate::script::{Action, Change, Command, Unread, read_line};
+use crate::script::{Action, Change, Command, Unread, parse_command, read_line};
 use frames::frame::Frame;
 use frametext::payload_text::PayloadText;
 use std::alloc::Global;
@@ -50,6 +50,22 @@ impl Session {
         }
     }
 
+    // The text of the next line that is neither blank nor a comment; none at the end of the input. A line that is no text is answered on the way. It knows no
+    // kind of payload, so that it is compiled once.
+    fn next_text(&mut self) -> io::Result<Option<String>>
+        ensures { ReadsOn self.old result self.new }
+    {
+        while let Some(line) = self.lines.next() {
+            self.number += 1;
+            match read_line(line, self.heap()) {
+                Ok(Some(text)) => return Ok(Some(text)),
+                Ok(None) => {}
+                Err(unread) => self.tell_unread(unread)?,
+            }
+        }
+        Ok(None)
+    }
+
     // Reads on up to a change, which it gives; none at the end of the input. Each action on the way is passed to `act`.
     pub(crate) fn next_change<
         P: PayloadText,
@@ -58,12 +74,10 @@ impl Session {
         requires { F.IsAlwaysCallable act }
         ensures { ReadsOn self.old result self.new }
     {
-        while let Some(line) = self.lines.next() {
-            self.number += 1;
-            match read_line::<P>(line, self.heap()) {
-                Ok(Some(Command::Action(action))) => act(self, action)?,
-                Ok(Some(Command::Change(change))) => return Ok(Some(change)),
-                Ok(None) => {}
+        while let Some(text) = self.next_text()? {
+            match parse_command::<P>(text.as_str()) {
+                Ok(Command::Action(action)) => act(self, action)?,
+                Ok(Command::Change(change)) => return Ok(Some(change)),
                 Err(unread) => self.tell_unread(unread)?,
             }
         }
